@@ -1,0 +1,6 @@
+pub mod Refusals
+pub mod Relations
+pub mod Sets
+pub mod Edges
+pub mod Models
+pub mod Drafts
