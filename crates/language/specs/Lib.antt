@@ -1,0 +1,4 @@
+pub mod Words
+pub mod Rules
+pub mod Derivations
+pub mod Tables

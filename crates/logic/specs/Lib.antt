@@ -1,0 +1,4 @@
+pub mod Paths
+pub mod Maximal
+pub mod Formulas
+pub mod Facts
