@@ -1,0 +1,53 @@
+-- The marks of a question are right where its parts' marks are.
+use mathlib.Core.Path.{_≡_, sym, subst}
+use mathlib.Core.Logic.{_⊎_, inl, inr, ⊎-elim}
+use Prim.Native.Nat.{ℕ, _<_, _≤_, _/_, _%_, _^_}
+use native.Mathlib.Omega.{arith}
+use native.Mathlib.Decide.{ℕ-discrete}
+use Rattle.model.specs.declared.model.Model.{Model}
+use Rattle.model.specs.declared.number_set.NumberSet.{NumberSet}
+use Rattle.model.specs.Models.{Labelled}
+use Rattle.model.specs.Relations.{Exactly, Joined}
+use Rattle.model.specs.Sets.{Has}
+use Rattle.logic.specs.Formulas.{Formula, proposition, neg, or}
+use Rattle.std.proofs.shelf.Tests.{cases-lt}
+use Rattle.std.specs.declared.option.Option.{Option}
+use Rattle.std.specs.declared.option.Option.the-variants.{Some, None}
+use Rattle.sheet.specs.Books.{Marks}
+use Rattle.sheet.specs.Causes.{CauseNot, CauseOr}
+
+none-some : {n : ℕ} → _≡_ {A = Option ℕ} None (Some n) → _≡_ {A = ℕ} 0 1
+none-some e = cc
+
+-- whether a state is in a set can be told
+pub has-dec : (x : NumberSet) (s : ℕ) → Dec (Has x s)
+has-dec x s = ℕ-discrete ((x .bits / 2 ^ s) % 2) 1
+
+pub marks-proposition : (m : Model) (p : ℕ) (x : NumberSet) → Exactly (Has x) (λ s. (s < m .states) × Labelled m s p) → Marks m (proposition p) x
+marks-proposition m p x e s l = (λ h. e s .0 h .1, λ h. e s .1 (l, h))
+
+pub marks-not : (m : Model) (f : Formula) (a x : NumberSet) → Exactly (Has x) (λ s. (s < m .states) × (Has a s → ⊥)) → Marks m f a → Marks m (neg f) x
+marks-not m f a x e mk s l = (λ h sat. e s .0 h .1 (mk s l .1 sat), λ no. e s .1 (l, λ h. no (mk s l .0 h)))
+
+pub marks-or : (m : Model) (f g : Formula) (a b x : NumberSet) → Exactly (Has x) (λ s. Has a s ⊎ Has b s) → Marks m f a → Marks m g b → Marks m (or f g) x
+marks-or m f g a b x e mk mk′ s l =
+    (λ h. ⊎-elim (λ p. inl (mk s l .0 p)) (λ q. inr (mk′ s l .0 q)) (e s .0 h),
+     λ sat. e s .1 (⊎-elim (λ p. inl (mk s l .1 p)) (λ q. inr (mk′ s l .1 q)) sat))
+
+-- the states below n that a set lacks
+pub without-exact : (n : ℕ) (all a x : NumberSet) → n ≤ 32 → Exactly (Has all) (λ t. (t < n) × (t < 32)) → Exactly (Has x) (λ t. Has all t × (Has a t → ⊥)) → Exactly (Has x) (λ s. (s < n) × (Has a s → ⊥))
+without-exact n all a x few is e s =
+    (λ h. (is s .0 (e s .0 h .0) .0, e s .0 h .1), λ d. let l = d .0 in e s .1 (is s .1 (l, omega arith), d .1))
+
+pub union-exact : (a b x : NumberSet) → Joined (Has a) (Has x) (Has b) → Exactly (Has x) (λ s. Has a s ⊎ Has b s)
+union-exact a b x j s = (j .only s, ⊎-elim (j .keeps s) (j .puts s))
+
+-- what an accepted call has shown of its parts
+pub part-there : (n q : ℕ) → CauseNot q n None → q < n
+part-there n q (inl met) = let z : _≡_ {A = ℕ} 0 1 = none-some (met .1) in absurd (omega arith)
+part-there n q (inr met) = let no = met .0 in elim (cases-lt q n) [ inl l ↦ l | inr l ↦ absurd (no l) ]
+
+pub parts-there : (n a b : ℕ) → CauseOr a b n None → (a < n) × (b < n)
+parts-there n a b (inl met) = let z : _≡_ {A = ℕ} 0 1 = none-some (met .1) in absurd (omega arith)
+parts-there n a b (inr met) = let no = met .0 in
+    (elim (cases-lt a n) [ inl l ↦ l | inr l ↦ absurd (no (inl l)) ], elim (cases-lt b n) [ inl l ↦ l | inr l ↦ absurd (no (inr l)) ])

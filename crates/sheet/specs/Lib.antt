@@ -1,0 +1,5 @@
+pub mod Questions
+pub mod Orders
+pub mod Books
+pub mod Causes
+pub mod Asking
