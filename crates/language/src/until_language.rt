@@ -7,7 +7,6 @@ ghost use Rattle.language.specs.Words.{Word};
 ghost use Rattle.language.specs.Rules.{RulesWithin, LettersWithin};
 ghost use Rattle.language.specs.Derivations.{Derives};
 ghost use Rattle.language.specs.declared.rule.Rule.{Rule as RuleOf};
-
 use crate::alphabet::Alphabet;
 use crate::rule::Rule;
 

@@ -2,7 +2,6 @@ ghost use mathlib.Core.Path.{_≡_};
 ghost use Prim.Native.Nat.{ℕ, _≤_};
 ghost use Rattle.language.specs.Words.{Word};
 ghost use Rattle.language.specs.Tables.{Table, Accepts, Complete};
-
 use crate::alphabet::Alphabet;
 
 // A set of words, told by a deterministic table: a word is in the set where the run over it ends in a marked state.

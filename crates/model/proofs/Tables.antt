@@ -18,9 +18,9 @@ use Rattle.model.proofs.Joins.{place-before}
 -- what holds of the first n elements and of x holds of the first n + 1 after x is stored at n
 pub each-set : {X : Type 0} (P : X → Type 0) (xs : List X) (n : ℕ) (x d : X) → n < length xs → ((k : ℕ) → k < n → P (getD xs k d)) → P x → (k : ℕ) → k < n + 1 → P (getD (set xs n x) k d)
 each-set P xs n x d room each here k h = elim (cases-lt k n) [
-      inl l ↦ subst P (sym (getD-set-other xs n k x d (λ e. omega arith))) (each k l)
-    | inr l ↦ let e : n ≡ k = omega arith in subst (λ j. P (getD (set xs n x) j d)) e (subst P (sym (getD-set-same xs n x d room)) here)
-    ]
+  | inl l ↦ subst P (sym (getD-set-other xs n k x d (λ e. omega arith))) (each k l)
+  | inr l ↦ let e : n ≡ k = omega arith in subst (λ j. P (getD (set xs n x) j d)) e (subst P (sym (getD-set-same xs n x d room)) here)
+]
 
 -- the elements in use, by their places
 pub among-place : {X : Type 0} (xs : List X) (n : ℕ) (d x : X) → n ≤ length xs → Among x (take n xs) → (k : ℕ) × (k < n) × (getD xs k d ≡ x)
@@ -40,12 +40,12 @@ place-among xs n d x room k l is =
 -- a record that is not there keeps the table free of equals
 pub distinct-set : {X : Type 0} (xs : List X) (n : ℕ) (x d : X) → n < length xs → Distinct d xs n → (Among x (take n xs) → ⊥) → Distinct d (set xs n x) (n + 1)
 distinct-set xs n x d room apart absent i j below last same = elim (cases-lt j n) [
-      inl l ↦ apart i j below l (sym (getD-set-other xs n i x d (λ e. omega arith)) ∙ same ∙ getD-set-other xs n j x d (λ e. omega arith))
-    | inr l ↦
+  | inl l ↦ apart i j below l (sym (getD-set-other xs n i x d (λ e. omega arith)) ∙ same ∙ getD-set-other xs n j x d (λ e. omega arith))
+  | inr l ↦
       let e : j ≡ n = omega arith in
       let here : getD (set xs n x) j d ≡ x = subst (λ k. getD (set xs n x) k d ≡ x) (sym e) (getD-set-same xs n x d room) in
       absent (place-among xs n d x (omega arith) i (omega arith) (sym (getD-set-other xs n i x d (λ e. omega arith)) ∙ same ∙ here))
-    ]
+]
 
 -- the list in use gets the record at its end
 pub take-pushed : {X : Type 0} (xs : List X) (n : ℕ) (x : X) → n < length xs → take (n + 1) (set xs n x) ≡ take n xs ++ x ∷ []

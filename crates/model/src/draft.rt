@@ -4,7 +4,6 @@ ghost use Rattle.std.specs.Results.{Cases};
 ghost use Rattle.model.specs.Refusals.{refusal};
 ghost use Rattle.model.specs.Models.{HasEdge};
 ghost use Rattle.model.specs.Drafts.{Bare, EdgeAdded, LabelAdded, CauseSize, CauseEdge, CauseLabel, AfterEdge};
-
 use crate::edge::Edge;
 use crate::model::Model;
 use crate::refusal::Refusal;
@@ -20,7 +19,9 @@ impl Draft {
     pub fn new() -> Draft
         ensures { λ r. ⌜ Bare 1 1 (r .model) ⌝ }
     {
-        Draft { model: Model::bare(1, 1) }
+        Draft {
+            model: Model::bare(1, 1),
+        }
     }
 
     // Sets the numbers of states and actions, and removes all edges and propositions.

@@ -4,7 +4,6 @@ ghost use Prim.Native.Nat.{_≤_};
 ghost use lib.ListN.{length};
 ghost use Rattle.model.specs.Relations.{Distinct};
 ghost use Rattle.model.specs.Edges.{AllInside, noEdge};
-
 use crate::edge::Edge;
 use crate::state_record::StateRecord;
 
@@ -27,5 +26,6 @@ pub struct Model {
     ghost distinct: { Distinct noEdge edges count },
 }
 
+mod labels;
 mod reading;
 mod writing;

@@ -25,21 +25,30 @@ impl NumberSet {
     pub fn single(n: u8) -> NumberSet
         ensures { λ r. ⌜ Exactly (Has r) (λ t. (t ≡ n) × (n < 32)) ⌝ }
     {
-        if n < 32 { NumberSet { bits: 1 << n } } else { NumberSet { bits: 0 } }
+        if n < 32 {
+            NumberSet { bits: 1 << n }
+        } else {
+            NumberSet::empty()
+        }
     }
 
     // The set of the numbers below n that are below 32.
     pub fn below(n: u8) -> NumberSet
         ensures { λ r. ⌜ Exactly (Has r) (λ t. (t < n) × (t < 32)) ⌝ }
     {
-        if n < 32 { NumberSet { bits: (1 << n) - 1 } } else { NumberSet { bits: u32::MAX } }
+        if n < 32 {
+            NumberSet { bits: (1 << n) - 1 }
+        } else {
+            NumberSet { bits: u32::MAX }
+        }
     }
 
     // The sum of 2^t over the numbers t of the set.
     pub fn bits(self) -> u32
         ensures { λ r. ⌜ r ≡ self .bits ⌝ }
     {
-        self.bits
+        let NumberSet { bits } = self;
+        bits
     }
 
     // Whether n is in the set.

@@ -3,7 +3,6 @@ ghost use mathlib.Core.Path.{_≡_};
 ghost use Prim.Native.Nat.{ℕ, _<_};
 ghost use Rattle.model.specs.Relations.{Joined};
 ghost use Rattle.model.specs.Sets.{Has, nothing};
-
 use crate::number_set::NumberSet;
 use crate::number_set::NumberSetDebug;
 use crate::number_set::NumberSetPartialEq;
@@ -19,14 +18,17 @@ impl StateRecord {
     pub fn blank() -> StateRecord
         ensures { λ r. ⌜ r ≡ record { propositions = nothing } ⌝ }
     {
-        StateRecord { propositions: NumberSet::empty() }
+        StateRecord {
+            propositions: NumberSet::empty(),
+        }
     }
 
     // The propositions that hold.
     pub fn propositions(self) -> NumberSet
         ensures { λ r. ⌜ r ≡ self .propositions ⌝ }
     {
-        self.propositions
+        let StateRecord { propositions } = self;
+        propositions
     }
 
     // Adds the proposition p, if it is below 32.

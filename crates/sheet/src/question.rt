@@ -3,7 +3,6 @@ ghost use mathlib.Core.Path.{_≡_};
 ghost use Prim.Native.Nat.{ℕ, _+_, _<_, _≤_};
 ghost use lib.ListN.{length, getD};
 ghost use Rattle.sheet.specs.Questions.{unasked};
-
 use model::NumberSet;
 use model::NumberSetDebug;
 use model::NumberSetPartialEq;
@@ -62,8 +61,14 @@ impl Questions {
     pub(crate) fn none() -> Questions
         ensures { λ r. ⌜ r .count ≡ 0 ⌝ }
     {
-        let unasked = Question { form: Form::Proposition(0), marks: NumberSet::empty() };
-        Questions { items: [unasked; 64], count: 0 }
+        let unasked = Question {
+            form: Form::Proposition(0),
+            marks: NumberSet::empty(),
+        };
+        Questions {
+            items: [unasked; 64],
+            count: 0,
+        }
     }
 
     pub(crate) fn len(&self) -> usize

@@ -1,7 +1,6 @@
 // A sheet: a model and the questions asked of it.
 ghost use denote.Ref.{now as behind};
 ghost use Rattle.sheet.specs.Orders.{PartsLower, MarksWithin};
-
 use crate::question::Questions;
 use model::Model;
 

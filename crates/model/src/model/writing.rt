@@ -4,7 +4,6 @@ ghost use Prim.Native.Nat.{ℕ, _<_, _≤_};
 ghost use Rattle.model.specs.Edges.{Inside};
 ghost use Rattle.model.specs.Models.{HasEdge};
 ghost use Rattle.model.specs.Drafts.{Bare, EdgeAdded, LabelAdded};
-
 use crate::edge::Edge;
 use crate::model::Model;
 use crate::state_record::StateRecord;
@@ -18,8 +17,18 @@ impl Model {
         requires few_actions { ⌜ actions ≤ 16 ⌝ }
         ensures { λ r. ⌜ Bare states actions r ⌝ }
     {
-        let no_edge = Edge { from: 0, action: 0, to: 0 };
-        Model { states, actions, records: [StateRecord::blank(); 32], edges: [no_edge; 256], count: 0 }
+        let no_edge = Edge {
+            from: 0,
+            action: 0,
+            to: 0,
+        };
+        Model {
+            states,
+            actions,
+            records: [StateRecord::blank(); 32],
+            edges: [no_edge; 256],
+            count: 0,
+        }
     }
 
     // Adds an edge that is not there.

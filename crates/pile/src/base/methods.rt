@@ -6,7 +6,6 @@ ghost use Rattle.std.specs.Results.{Cases};
 ghost use Rattle.std.specs.Options.{Cases as BySome};
 ghost use Rattle.model.specs.Refusals.{refusal, Refuse, Accept};
 ghost use Rattle.pile.specs.Items.{items, room};
-
 use crate::base::Pile;
 use model::Refusal;
 

@@ -10,7 +10,6 @@ ghost use Rattle.sheet.specs.Books.{formula, modelOf};
 ghost use Rattle.sheet.specs.Causes.{CauseProposition, CauseNot, CauseOr};
 ghost use Rattle.sheet.specs.Asking.{Asked};
 ghost use Rattle.sheet.specs.declared.question.Form.the-variants.{Proposition as PropositionForm, Not as NotForm, Or as OrForm};
-
 use crate::question::Form;
 use crate::question::Question;
 use crate::sheet::Sheet;
@@ -55,7 +54,10 @@ impl Sheet<'_> {
         ensures { λ r. ⌜ Asked (now (self .entry)) (now (self .exit)) (CauseOr left right) (OrForm left right) (λ s. Has (at (now (self .entry) .questions) left .marks) s ⊎ Has (at (now (self .entry) .questions) right .marks) s) (λ book. either (formula book left) (formula book right)) r ⌝ }
     {
         self.check_or(left, right)?;
-        let marks = self.questions.get(left).marks().union(self.questions.get(right).marks());
+        let marks = self.questions
+            .get(left)
+            .marks()
+            .union(self.questions.get(right).marks());
         Ok(self.add(Form::Or(left, right), marks))
     }
 }

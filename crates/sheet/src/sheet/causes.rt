@@ -1,7 +1,6 @@
 // Which calls a sheet refuses, and why.
 ghost use Rattle.model.specs.Refusals.{refusal};
 ghost use Rattle.sheet.specs.Causes.{Full, CauseProposition, CauseNot, CauseOr, CauseMarks};
-
 use crate::sheet::Sheet;
 use model::Refusal;
 

@@ -9,7 +9,6 @@ ghost use Rattle.sheet.specs.Orders.{at};
 ghost use Rattle.sheet.specs.Books.{Book, Stands, modelOf};
 ghost use Rattle.sheet.specs.Causes.{CauseMarks};
 ghost use Rattle.sheet.specs.Asking.{MarksRead};
-
 use crate::question::Question;
 use crate::question::Questions;
 use crate::sheet::Sheet;
@@ -23,7 +22,10 @@ impl<'m> Sheet<'m> {
         ensures model { λ r. ⌜ modelOf r ≡ now (model .entry) ⌝ }
         ensures stands { λ r. ⌜ Stands [] r ⌝ }
     {
-        Sheet { model, questions: Questions::none() }
+        Sheet {
+            model,
+            questions: Questions::none(),
+        }
     }
 
     // How many questions have been asked.

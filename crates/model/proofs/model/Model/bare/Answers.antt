@@ -6,8 +6,8 @@ use Rattle.model.proofs.model.Model.bare.Needs as need
 
 pub returns : need.returns
 returns c = record {
-    states = refl;
-    actions = refl;
-    edges = refl;
-    records = λ s. subst (λ x. getD (replicate 32 x) s blank ≡ blank) (sym (c .blank .ensures)) (getD-copies 32 blank s)
-  }
+  states = refl;
+  actions = refl;
+  edges = refl;
+  records = λ s. subst (λ x. getD (replicate 32 x) s blank ≡ blank) (sym (c .blank .ensures)) (getD-copies 32 blank s);
+}

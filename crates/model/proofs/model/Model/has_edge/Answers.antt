@@ -25,7 +25,8 @@ returns-then-same c =
 pub returns : need.returns
 returns c =
     let e = c .edges-known-items .ensures in
-    let done = c .loop-known-test .left in
-    (λ no. let z : _≡_ {A = ℕ} 0 1 = cc in absurd (omega arith),
-     λ m. let at : nth (c .edges-known-items .result .now) (m .0) ≡ Some (c .args .edge) = ap (λ xs. nth xs (m .0)) e ∙ m .1 in
-       absurd (c .loop-known .inv (m .0) (omega (arith, place-before _ (m .0) (c .args .edge) at)) (m .1)))
+    let done = c .loop-known-test .left in (
+      λ no. let z : _≡_ {A = ℕ} 0 1 = cc in absurd (omega arith),
+      λ m. let at : nth (c .edges-known-items .result .now) (m .0) ≡ Some (c .args .edge) = ap (λ xs. nth xs (m .0)) e ∙ m .1 in
+          absurd (c .loop-known .inv (m .0) (omega (arith, place-before _ (m .0) (c .args .edge) at)) (m .1)),
+    )

@@ -17,6 +17,7 @@ returns-then-has c t =
 
 pub returns-else-has : need.returns-else-has
 returns-else-has c t =
-    let m = c .args .self .now in
-    (λ h. absurd (bit-none t (subst (λ x. Has x t) (c .empty .ensures) h)),
-     λ d. absurd (clash (sym (c .if-has .left) ∙ c .has .ensures .1 (subst (λ x. Has x (c .args .p)) (sym (c .propositions .ensures)) (subst (λ k. Labelled m k (c .args .p)) (d .0) (d .1))))))
+    let m = c .args .self .now in (
+      λ h. absurd (bit-none t (subst (λ x. Has x t) (c .empty .ensures) h)),
+      λ d. absurd (clash (sym (c .if-has .left) ∙ c .has .ensures .1 (subst (λ x. Has x (c .args .p)) (sym (c .propositions .ensures)) (subst (λ k. Labelled m k (c .args .p)) (d .0) (d .1))))),
+    )

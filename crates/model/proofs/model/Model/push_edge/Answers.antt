@@ -8,10 +8,31 @@ use Rattle.model.proofs.model.Model.push_edge.Needs as need
 pub ghost-self : need.ghost-self
 ghost-self c =
     let m = c .args .self .now in
-    let room = c .pre .room in
-    (m .«some_state», (m .«few_states», (m .«some_action», (m .«few_actions», (m .«all_records», (simp length-set (m .«all_edges»), (omega arith,
-      (each-set (λ e. Inside (m .states) (m .actions) e) (m .edges) (m .count) (c .args .edge) noEdge (omega (arith, m .«all_edges»)) (m .inside) (c .pre .inside),
-      (distinct-set (m .edges) (m .count) (c .args .edge) noEdge (omega (arith, m .«all_edges»)) (m .distinct) (c .pre .absent), tt)))))))))
+    let room = c .pre .room in (
+      m .«some_state»,
+      (
+        m .«few_states»,
+        (
+          m .«some_action»,
+          (
+            m .«few_actions»,
+            (
+              m .«all_records»,
+              (
+                simp length-set (m .«all_edges»),
+                (
+                  omega arith,
+                  (
+                    each-set (λ e. Inside (m .states) (m .actions) e) (m .edges) (m .count) (c .args .edge) noEdge (omega (arith, m .«all_edges»)) (m .inside) (c .pre .inside),
+                    (distinct-set (m .edges) (m .count) (c .args .edge) noEdge (omega (arith, m .«all_edges»)) (m .distinct) (c .pre .absent), tt),
+                  ),
+                ),
+              ),
+            ),
+          ),
+        ),
+      ),
+    )
 
 pub returns : need.returns
 returns c =
@@ -20,5 +41,5 @@ returns c =
       edges = take-pushed (m .edges) (m .count) (c .args .edge) (omega (arith, m .«all_edges», c .pre .room));
       states = refl;
       actions = refl;
-      records = refl
+      records = refl;
     }

@@ -11,7 +11,7 @@ pub returns-then-n-lt32 : need.returns-then-n-lt32
 returns-then-n-lt32 c =
     let l : c .args .n < 32 = c .if-n-lt32 .taken in
     subst (λ m. Exactly (Bit (m - 1)) (λ t. (t < c .args .n) × (t < 32))) (sym (one-shl (c .args .n) 32 l))
-      (λ t. let e = ones-exact (c .args .n) t in (λ h. let k = e .0 h in (k, omega arith), λ m. e .1 (m .0)))
+    (λ t. let e = ones-exact (c .args .n) t in (λ h. let k = e .0 h in (k, omega arith), λ m. e .1 (m .0)))
 
 pub returns-else-n-lt32 : need.returns-else-n-lt32
 returns-else-n-lt32 c =

@@ -14,7 +14,7 @@ returns g c =
     record {
       cause = inr (λ full. omega (arith, length-take-le (p .count) (p .slots .now) (p .within)), refl);
       items = ap (λ k. take k (set (p .slots .now) (p .count) (c .args .item))) (add-one _) ∙ take-suc-set _ _ _ l;
-      room = length-set _ _ _
+      room = length-set _ _ _;
     }
 
 pub returns-then-self : need.returns-then-self
@@ -23,5 +23,5 @@ returns-then-self g c =
     record {
       cause = inl (omega (arith, length-take-le (p .count) (p .slots .now) (p .within), c .if-self .taken), refl);
       items = refl;
-      room = refl
+      room = refl;
     }

@@ -23,4 +23,4 @@ returns c =
     let all : Exactly (Has (c .below .result)) (λ t. (t < m .states) × (t < 32)) = subst (λ n. Exactly (Has (c .below .result)) (λ t. (t < n) × (t < 32))) (c .states .ensures) (c .below .ensures) in
     let exact = without-exact (m .states) (c .below .result) a x (m .«few_states») all (subst (λ y. Exactly (Has x) (λ t. Has (c .below .result) t × (Has y t → ⊥))) same (c .without-marks .ensures)) in
     asked _ _ _ _ _ _ x _ free (c .add .ensures .number) (c .add .ensures .model) (c .add .ensures .added) exact
-      (λ book st. marks-not m (formula book q) a x exact (st .right q (part-there (sheet .questions .count) q free))) (λ _. refl)
+    (λ book st. marks-not m (formula book q) a x exact (st .right q (part-there (sheet .questions .count) q free))) (λ _. refl)

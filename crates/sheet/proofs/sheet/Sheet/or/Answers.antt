@@ -24,4 +24,4 @@ returns c =
     let both : Joined (Has a) (Has x) (Has b) = subst (λ y. Joined (Has a) (Has x) (Has y)) right (subst (λ y. Joined (Has y) (Has x) (Has (c .marks-2 .result))) left (c .union-marks .ensures)) in
     let exact = union-exact a b x both in
     asked _ _ _ _ _ _ x _ free (c .add .ensures .number) (c .add .ensures .model) (c .add .ensures .added) exact
-      (λ book st. marks-or m (formula book (c .args .left)) (formula book (c .args .right)) a b x exact (st .right (c .args .left) (there .0)) (st .right (c .args .right) (there .1))) (λ _. refl)
+    (λ book st. marks-or m (formula book (c .args .left)) (formula book (c .args .right)) a b x exact (st .right (c .args .left) (there .0)) (st .right (c .args .right) (there .1))) (λ _. refl)
