@@ -1,7 +1,10 @@
 // Which calls a sheet refuses, and why.
-ghost use Rattle.model.specs.Refusals.{refusal};
-ghost use Rattle.sheet.specs.Causes.{Full, CauseProposition, CauseNot, CauseOr, CauseMarks};
+ghost use Rattle.model.specs.Refusals.{refusal, Accept};
+ghost use Rattle.sheet.specs.Books.{modelOf};
+ghost use Rattle.sheet.specs.Causes.{Full, CauseProposition, CauseNot, CauseOr, CauseMarks, CauseUntil, CauseRelease, Unfit, told};
 use crate::sheet::Sheet;
+use language::UntilLanguage;
+use language::Watcher;
 use model::Refusal;
 
 impl Sheet<'_> {
@@ -48,5 +51,41 @@ impl Sheet<'_> {
             return Err(Refusal::NoSuchQuestion);
         }
         self.check_room()
+    }
+
+    pub(crate) fn check_language<L: UntilLanguage>(&self, language: &L, work: usize) -> Result<(), Refusal>
+        ensures { λ r. ⌜ Unfit (modelOf (now (self .entry))) (told (L·Alphabet .known (now (language .entry))) (L·UntilLanguage .symbols (now (language .entry))) (L·UntilLanguage .rules (now (language .entry)))) work Accept (refusal r) ⌝ }
+    {
+        if language.action_count() != self.model.actions() {
+            return Err(Refusal::OtherAlphabet);
+        }
+        let symbols = language.symbol_count();
+        if symbols > 16 || language.rule_count() > 128 {
+            return Err(Refusal::TooLarge);
+        }
+        let states = self.model.states() as usize;
+        if work < symbols * states * states {
+            return Err(Refusal::WorkTooShort);
+        }
+        Ok(())
+    }
+
+    pub(crate) fn check_until<L: UntilLanguage>(&self, guard: usize, goal: usize, language: &L, work: usize) -> Result<(), Refusal>
+        ensures { λ r. ⌜ CauseUntil (modelOf (now (self .entry))) (told (L·Alphabet .known (now (language .entry))) (L·UntilLanguage .symbols (now (language .entry))) (L·UntilLanguage .rules (now (language .entry)))) work guard goal (now (self .entry) .questions .count) (refusal r) ⌝ }
+    {
+        self.check_language(language, work)?;
+        self.check_or(guard, goal)
+    }
+
+    pub(crate) fn check_release<W: Watcher>(&self, freeing: usize, kept: usize, watcher: &W) -> Result<(), Refusal>
+        ensures { λ r. ⌜ CauseRelease (modelOf (now (self .entry))) (W·Alphabet .known (now (watcher .entry))) (W·Watcher .table (now (watcher .entry))) freeing kept (now (self .entry) .questions .count) (refusal r) ⌝ }
+    {
+        if watcher.action_count() != self.model.actions() {
+            return Err(Refusal::OtherAlphabet);
+        }
+        if watcher.state_count() > 32 {
+            return Err(Refusal::TooLarge);
+        }
+        self.check_or(freeing, kept)
     }
 }
