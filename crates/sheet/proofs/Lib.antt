@@ -1,2 +1,4 @@
+pub mod Chains
 pub mod Standing
 pub mod Marking
+pub mod Witnessing

@@ -17,14 +17,7 @@ use Rattle.logic.specs.Formulas.{Formula, proposition, neg, or, until, release,
 use Rattle.logic.specs.Paths.{SomeGood}
 use Rattle.logic.specs.Maximal.{SomeKeeps}
 use Rattle.logic.proofs.Mapping.{Follows, some-good-map, some-keeps-map}
-use Rattle.std.proofs.shelf.Tests.{cases-lt}
-use Rattle.std.specs.declared.option.Option.{Option}
-use Rattle.std.specs.declared.option.Option.the-variants.{Some, None}
 use Rattle.sheet.specs.Books.{Marks}
-use Rattle.sheet.specs.Causes.{CauseNot, CauseOr}
-
-none-some : {n : ℕ} → _≡_ {A = Option ℕ} None (Some n) → _≡_ {A = ℕ} 0 1
-none-some e = cc
 
 -- whether a state is in a set can be told
 pub has-dec : (x : NumberSet) (s : ℕ) → Dec (Has x s)
@@ -49,16 +42,6 @@ without-exact n all a x few is e s =
 
 pub union-exact : (a b x : NumberSet) → Joined (Has a) (Has x) (Has b) → Exactly (Has x) (λ s. Has a s ⊎ Has b s)
 union-exact a b x j s = (j .only s, ⊎-elim (j .keeps s) (j .puts s))
-
--- what an accepted call has shown of its parts
-pub part-there : (n q : ℕ) → CauseNot q n None → q < n
-part-there n q (inl met) = let z : _≡_ {A = ℕ} 0 1 = none-some (met .1) in absurd (omega arith)
-part-there n q (inr met) = let no = met .0 in elim (cases-lt q n) [ inl l ↦ l | inr l ↦ absurd (no l) ]
-
-pub parts-there : (n a b : ℕ) → CauseOr a b n None → (a < n) × (b < n)
-parts-there n a b (inl met) = let z : _≡_ {A = ℕ} 0 1 = none-some (met .1) in absurd (omega arith)
-parts-there n a b (inr met) = let no = met .0 in
-    (elim (cases-lt a n) [ inl l ↦ l | inr l ↦ absurd (no (inl l)) ], elim (cases-lt b n) [ inl l ↦ l | inr l ↦ absurd (no (inr l)) ])
 
 -- the parts' marks in place of their formulas
 pub from-marks : (m : Model) (f : Formula) (a : NumberSet) → Marks m f a → Follows m (Has a) (λ t. Sat m f t)

@@ -3,3 +3,4 @@ pub mod Orders
 pub mod Books
 pub mod Causes
 pub mod Asking
+pub mod Witnesses

@@ -16,3 +16,4 @@ pub struct Sheet<'m> {
 mod asking;
 mod causes;
 mod reading;
+mod untils;

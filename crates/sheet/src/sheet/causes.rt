@@ -1,7 +1,7 @@
 // Which calls a sheet refuses, and why.
 ghost use Rattle.model.specs.Refusals.{refusal, Accept};
 ghost use Rattle.sheet.specs.Books.{modelOf};
-ghost use Rattle.sheet.specs.Causes.{Full, CauseProposition, CauseNot, CauseOr, CauseMarks, CauseUntil, CauseRelease, Unfit, told};
+ghost use Rattle.sheet.specs.Causes.{Full, CauseProposition, CauseNot, CauseOr, CauseMarks, CauseUntil, CauseRelease, CausePath, Unfit, told};
 use crate::sheet::Sheet;
 use language::UntilLanguage;
 use language::Watcher;
@@ -87,5 +87,22 @@ impl Sheet<'_> {
             return Err(Refusal::TooLarge);
         }
         self.check_or(freeing, kept)
+    }
+
+    // All causes of a path call but the last, which only the search can tell.
+    pub(crate) fn check_path<L: UntilLanguage>(&self, guard: usize, goal: usize, language: &L, state: u8, work: usize, waiting: usize, steps: usize) -> Result<(), Refusal>
+        ensures { λ r. ⌜ CausePath (modelOf (now (self .entry))) (told (L·Alphabet .known (now (language .entry))) (L·UntilLanguage .symbols (now (language .entry))) (L·UntilLanguage .rules (now (language .entry)))) work waiting steps guard goal state (λ _. ⊥) (now (self .entry) .questions .count) (refusal r) ⌝ }
+    {
+        if state >= self.model.states() {
+            return Err(Refusal::NoSuchState);
+        }
+        self.check_language(language, work)?;
+        if waiting < steps {
+            return Err(Refusal::MemoryTooShort);
+        }
+        if guard >= self.questions.len() || goal >= self.questions.len() {
+            return Err(Refusal::NoSuchQuestion);
+        }
+        Ok(())
     }
 }

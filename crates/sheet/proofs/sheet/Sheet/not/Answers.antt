@@ -7,8 +7,9 @@ use Rattle.model.specs.Relations.{Exactly}
 use Rattle.model.specs.Sets.{Has}
 use Rattle.sheet.specs.Books.{modelOf, formula}
 use Rattle.sheet.specs.Orders.{at}
+use Rattle.sheet.proofs.Chains.{part-there}
 use Rattle.sheet.proofs.Standing.{asked}
-use Rattle.sheet.proofs.Marking.{marks-not, without-exact, part-there}
+use Rattle.sheet.proofs.Marking.{marks-not, without-exact}
 use Rattle.sheet.proofs.sheet.Sheet.not.Needs as need
 
 pub returns : need.returns

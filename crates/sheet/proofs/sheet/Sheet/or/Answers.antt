@@ -6,8 +6,9 @@ use Rattle.model.specs.Relations.{Exactly, Joined}
 use Rattle.model.specs.Sets.{Has}
 use Rattle.sheet.specs.Books.{modelOf, formula}
 use Rattle.sheet.specs.Orders.{at}
+use Rattle.sheet.proofs.Chains.{parts-there}
 use Rattle.sheet.proofs.Standing.{asked}
-use Rattle.sheet.proofs.Marking.{marks-or, union-exact, parts-there}
+use Rattle.sheet.proofs.Marking.{marks-or, union-exact}
 use Rattle.sheet.proofs.sheet.Sheet.or.Needs as need
 
 pub returns : need.returns
