@@ -10,7 +10,8 @@ use Rattle.std.proofs.shelf.Tests.{cases-lt}
 use Rattle.model.specs.declared.edge.Step.{Step}
 use Rattle.model.specs.declared.model.Model.{Model}
 use Rattle.model.specs.Refusals.{Refuse, Accept}
-use Rattle.sheet.specs.Causes.{CauseNot, CauseOr, CausePath, Told, TooLong, limit}
+use Rattle.sheet.specs.Causes.{CauseNot, CauseOr, CausePath, CauseUntil, CauseRelease, Told, TooLong, limit}
+use Rattle.language.specs.Tables.{Table}
 
 pub none-some : {A : Type 0} {n : ℕ} → _≡_ {A = Option ℕ} None (Some n) → A
 none-some e = let z : _≡_ {A = ℕ} 0 1 = cc in absurd (omega arith)
@@ -58,3 +59,14 @@ module _ (m : Model) (l : Told) (work waiting steps guard goal s n : ℕ) where
       none : Refuse (TooLong None-good (limit steps)) 24 Accept (Some e) → Refuse (TooLong Good (limit steps)) 24 Accept (Some e)
       none (inl h) = absurd (h .0 .0 .1)
       none (inr h) = some-none (h .1)
+
+-- what a search may rest on after an accepted check
+pub passed : {C L : Type 0} {k : ℕ} → (C × (_≡_ {A = Option ℕ} None (Some k))) ⊎ ((C → ⊥) × L) → (C → ⊥) × L
+passed (inl met) = none-some (met .1)
+passed (inr met) = met
+
+pub until-parts : (m : Model) (l : Told) (work guard goal n : ℕ) → CauseUntil m l work guard goal n None → (guard < n) × (goal < n)
+until-parts m l work guard goal n free = parts-there n guard goal (passed (passed (passed free .1) .1) .1)
+
+pub release-parts : (m : Model) (known : ℕ) (t : Table) (freeing kept n : ℕ) → CauseRelease m known t freeing kept n None → (freeing < n) × (kept < n)
+release-parts m known t freeing kept n free = parts-there n freeing kept (passed (passed free .1) .1)

@@ -11,6 +11,8 @@ use Rattle.std.specs.declared.option.Option.{Option}
 use Rattle.std.specs.declared.option.Option.the-variants.{Some, None}
 use Rattle.std.specs.declared.result.Result.the-variants.{Ok, Err}
 use Rattle.model.specs.declared.number_set.NumberSet.{NumberSet}
+use Rattle.model.specs.declared.refusal.Refusal.{Refusal}
+use Rattle.model.specs.Refusals.{number}
 use Rattle.model.specs.Relations.{Exactly}
 use Rattle.model.specs.Sets.{Has}
 use Rattle.logic.specs.Formulas.{Formula, proposition, neg, or, until, release}
@@ -81,3 +83,11 @@ module _ (old new : Sheet) (Cause : ℕ → Option ℕ → Type 0) (form : Form)
 
   pub asked : Asked old new Cause form M f (Ok r)
   asked = record { cause = free; done = (number, record { marks = x; exact = exact; added = added; model = same }); right = right }
+
+-- what a refused asking call promises: the sheet is as it was
+pub asked-refused : (sheet : Sheet) (Cause : ℕ → Option ℕ → Type 0) (form : Form) (M : ℕ → Type 0) (f : Book → Formula) (e : Refusal) → Cause (sheet .questions .count) (Some (number e)) → Asked sheet sheet Cause form M f (Err e)
+asked-refused sheet Cause form M f e met = record {
+    cause = met;
+    done = refl;
+    right = λ book st. record { refused = subst (λ n. Cause n (Some (number e))) (sym (st .long)) met; number = tt; leaves = st }
+  }

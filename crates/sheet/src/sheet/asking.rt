@@ -18,7 +18,7 @@ use model::Refusal;
 
 impl Sheet<'_> {
     // Adds a question whose parts are there and whose marks are states of the model, and gives its number.
-    fn add(&mut self, form: Form, marks: NumberSet) -> usize
+    pub(crate) fn add(&mut self, form: Form, marks: NumberSet) -> usize
         requires room { ⌜ now self .questions .count < 64 ⌝ }
         requires lower { ⌜ ((p : ℕ) → Part form p → p < now self .questions .count) ⌝ }
         requires within { ⌜ ((s : ℕ) → Has marks s → s < modelOf (now self) .states) ⌝ }
