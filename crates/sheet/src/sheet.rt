@@ -16,4 +16,5 @@ pub struct Sheet<'m> {
 mod asking;
 mod causes;
 mod reading;
+mod releases;
 mod untils;

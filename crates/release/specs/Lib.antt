@@ -1,0 +1,4 @@
+pub mod Pairs
+pub mod Arrows
+pub mod Searches
+pub mod Releases

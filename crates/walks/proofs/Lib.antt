@@ -1,0 +1,3 @@
+pub mod Pigeons
+pub mod Breaks
+pub mod Walks
