@@ -2,6 +2,7 @@
 use crate::report::Answer;
 use crate::report::Report;
 use crate::report::count;
+use crate::report::made;
 use crate::report::outcome;
 use crate::workshop::full_draft;
 use model::Draft;
@@ -11,190 +12,129 @@ use std::error::AnyError;
 
 // Prints the sizes of a model and how many edges it has.
 fn model_is(
-    rt: &LibcRuntime,
     report: &mut Report,
     model: &Model,
     states: u32,
     actions: u32,
     edges: u32,
 ) -> Result<(), AnyError> {
-    report.compare(
-        rt,
+    report.number(
         "  states",
         Answer::Number(u32::from(model.states())),
-        Answer::Number(states),
+        states,
     )?;
-    report.compare(
-        rt,
+    report.number(
         "  actions",
         Answer::Number(u32::from(model.actions())),
-        Answer::Number(actions),
+        actions,
     )?;
-    report.compare(
-        rt,
-        "  edges",
-        count(model.edges().len()),
-        Answer::Number(edges),
-    )?;
+    report.number("  edges", count(model.edges().len()), edges)?;
     Ok(())
 }
 
-pub fn sizes(rt: &LibcRuntime, report: &mut Report) -> Result<(), AnyError> {
-    println!(rt, "sizing a draft")?;
+pub fn sizes(report: &mut Report) -> Result<(), AnyError> {
+    report.heading("sizing a draft")?;
     let mut draft = Draft::new();
-    report.compare(
-        rt,
-        "32 states and 16 actions",
-        outcome(draft.size(32, 16)),
-        Answer::Accepted,
-    )?;
-    report.compare(
-        rt,
+    report.accepted("32 states and 16 actions", outcome(draft.size(32, 16)))?;
+    report.accepted(
         "the last edge",
         outcome(draft.add_edge(Edge {
             from: 31,
             action: 15,
             to: 31,
         })),
-        Answer::Accepted,
     )?;
-    report.compare(
-        rt,
-        "0 states",
-        outcome(draft.size(0, 1)),
-        Answer::Refused(4),
-    )?;
-    report.compare(
-        rt,
-        "33 states",
-        outcome(draft.size(33, 1)),
-        Answer::Refused(4),
-    )?;
-    report.compare(
-        rt,
-        "0 actions",
-        outcome(draft.size(1, 0)),
-        Answer::Refused(4),
-    )?;
-    report.compare(
-        rt,
-        "17 actions",
-        outcome(draft.size(1, 17)),
-        Answer::Refused(4),
-    )?;
-    println!(rt, "the draft is as it was:")?;
-    model_is(rt, report, &draft.seal(), 32, 16, 1)?;
-    println!(rt, "a new draft:")?;
-    model_is(rt, report, &Draft::new().seal(), 1, 1, 0)?;
+    report.refused("0 states", outcome(draft.size(0, 1)), 4)?;
+    report.refused("33 states", outcome(draft.size(33, 1)), 4)?;
+    report.refused("0 actions", outcome(draft.size(1, 0)), 4)?;
+    report.refused("17 actions", outcome(draft.size(1, 17)), 4)?;
+    report.heading("the draft is as it was:")?;
+    model_is(report, &draft.seal(), 32, 16, 1)?;
+    report.heading("a new draft:")?;
+    model_is(report, &Draft::new().seal(), 1, 1, 0)?;
     Ok(())
 }
 
-pub fn edges(rt: &LibcRuntime, report: &mut Report) -> Result<(), AnyError> {
-    println!(rt, "adding edges to 5 states, 16 actions and 256 edges")?;
-    let Ok(mut draft) = full_draft() else {
-        return Err("the full draft was refused".into());
-    };
-    report.compare(
-        rt,
+pub fn edges(report: &mut Report) -> Result<(), AnyError> {
+    report.heading("adding edges to 5 states, 16 actions and 256 edges")?;
+    let mut draft = made(full_draft())?;
+    report.refused(
         "from a missing state",
         outcome(draft.add_edge(Edge {
             from: 5,
             action: 16,
             to: 0,
         })),
-        Answer::Refused(1),
+        1,
     )?;
-    report.compare(
-        rt,
+    report.refused(
         "to a missing state",
         outcome(draft.add_edge(Edge {
             from: 0,
             action: 16,
             to: 5,
         })),
-        Answer::Refused(1),
+        1,
     )?;
-    report.compare(
-        rt,
+    report.refused(
         "by a missing action",
         outcome(draft.add_edge(Edge {
             from: 0,
             action: 16,
             to: 0,
         })),
-        Answer::Refused(2),
+        2,
     )?;
-    report.compare(
-        rt,
+    report.accepted(
         "one that is there",
         outcome(draft.add_edge(Edge {
             from: 3,
             action: 15,
             to: 3,
         })),
-        Answer::Accepted,
     )?;
-    report.compare(
-        rt,
+    report.refused(
         "one more",
         outcome(draft.add_edge(Edge {
             from: 4,
             action: 0,
             to: 0,
         })),
-        Answer::Refused(23),
+        23,
     )?;
-    println!(rt, "the draft is as it was:")?;
+    report.heading("the draft is as it was:")?;
     let model = draft.seal();
     let more = model.has_edge(Edge {
         from: 4,
         action: 0,
         to: 0,
     });
-    report.compare(
-        rt,
+    report.number(
         "  the edge that was refused is there",
         Answer::Number(u32::from(more)),
-        Answer::Number(0),
+        0,
     )?;
-    model_is(rt, report, &model, 5, 16, 256)?;
+    model_is(report, &model, 5, 16, 256)?;
     Ok(())
 }
 
-pub fn labels(rt: &LibcRuntime, report: &mut Report) -> Result<(), AnyError> {
-    println!(rt, "adding propositions to 2 states")?;
+pub fn labels(report: &mut Report) -> Result<(), AnyError> {
+    report.heading("adding propositions to 2 states")?;
     let mut draft = Draft::new();
-    report.compare(rt, "2 states", outcome(draft.size(2, 1)), Answer::Accepted)?;
-    report.compare(
-        rt,
-        "proposition 31 at state 1",
-        outcome(draft.label(1, 31)),
-        Answer::Accepted,
-    )?;
-    report.compare(
-        rt,
-        "proposition 32 at state 2",
-        outcome(draft.label(2, 32)),
-        Answer::Refused(1),
-    )?;
-    report.compare(
-        rt,
-        "proposition 32 at state 0",
-        outcome(draft.label(0, 32)),
-        Answer::Refused(3),
-    )?;
+    report.accepted("2 states", outcome(draft.size(2, 1)))?;
+    report.accepted("proposition 31 at state 1", outcome(draft.label(1, 31)))?;
+    report.refused("proposition 32 at state 2", outcome(draft.label(2, 32)), 1)?;
+    report.refused("proposition 32 at state 0", outcome(draft.label(0, 32)), 3)?;
     let model = draft.seal();
-    report.compare(
-        rt,
+    report.number(
         "proposition 31 holds at",
         Answer::Number(model.labelled(31).bits()),
-        Answer::Number(2),
+        2,
     )?;
-    report.compare(
-        rt,
+    report.number(
         "proposition 0 holds at",
         Answer::Number(model.labelled(0).bits()),
-        Answer::Number(0),
+        0,
     )?;
     Ok(())
 }

@@ -1,5 +1,4 @@
 // Counts what was compared, and prints each comparison.
-use model::NumberSet;
 use model::Refusal;
 use std::error::AnyError;
 use std::fmt;
@@ -25,26 +24,18 @@ impl fmt::Display for Answer as AnswerDisplay {
     }
 }
 
+// What a call made that the cases need; none of these is refused.
+pub fn made<T>(answer: Result<T, Refusal>) -> Result<T, AnyError> {
+    match answer {
+        Ok(x) => Ok(x),
+        Err(_) => Err("a model, a language or a question was refused".into()),
+    }
+}
+
 // Whether a call was accepted.
 pub fn outcome<T: Drop>(answer: Result<T, Refusal>) -> Answer {
     match answer {
         Ok(_) => Answer::Accepted,
-        Err(cause) => Answer::Refused(cause.number()),
-    }
-}
-
-// The number that a call answered.
-pub fn number(answer: Result<usize, Refusal>) -> Answer {
-    match answer {
-        Ok(n) => count(n),
-        Err(cause) => Answer::Refused(cause.number()),
-    }
-}
-
-// The marks that a call answered.
-pub fn marks(answer: Result<NumberSet, Refusal>) -> Answer {
-    match answer {
-        Ok(states) => Answer::Number(states.bits()),
         Err(cause) => Answer::Refused(cause.number()),
     }
 }
@@ -55,40 +46,53 @@ pub fn count(n: usize) -> Answer {
 }
 
 #[derive(Drop)]
-pub struct Report {
+pub struct Report<'a> {
+    rt: &'a LibcRuntime,
     cases: u32,
     differences: u32,
 }
 
-impl Report {
-    pub fn new() -> Report {
+impl<'a> Report<'a> {
+    pub fn new(rt: &'a LibcRuntime) -> Report<'a> {
         Report {
+            rt,
             cases: 0,
             differences: 0,
         }
     }
 
+    // What the next comparisons are about.
+    pub fn heading(&self, text: &str) -> io::Result<()> {
+        println!(self.rt, "{text}")
+    }
+
     // Prints what was found beside what is expected.
-    pub fn compare(
-        &mut self,
-        rt: &LibcRuntime,
-        what: &str,
-        found: Answer,
-        expected: Answer,
-    ) -> io::Result<()> {
+    fn compare(&mut self, what: &str, found: Answer, expected: Answer) -> io::Result<()> {
         self.cases = self.cases.saturating_add(1);
         if found != expected {
             self.differences = self.differences.saturating_add(1);
-            print!(rt, "DIFFERS: ")?;
+            print!(self.rt, "DIFFERS: ")?;
         }
-        println!(rt, "{what}: {found}, expected {expected}")
+        println!(self.rt, "{what}: {found}, expected {expected}")
+    }
+
+    pub fn number(&mut self, what: &str, found: Answer, expected: u32) -> io::Result<()> {
+        self.compare(what, found, Answer::Number(expected))
+    }
+
+    pub fn refused(&mut self, what: &str, found: Answer, expected: u8) -> io::Result<()> {
+        self.compare(what, found, Answer::Refused(expected))
+    }
+
+    pub fn accepted(&mut self, what: &str, found: Answer) -> io::Result<()> {
+        self.compare(what, found, Answer::Accepted)
     }
 
     // Prints how many comparisons there were; a difference is an error.
-    pub fn close(&self, rt: &LibcRuntime) -> Result<(), AnyError> {
+    pub fn close(&self) -> Result<(), AnyError> {
         let cases = self.cases;
         let differences = self.differences;
-        println!(rt, "{cases} cases, {differences} differences")?;
+        println!(self.rt, "{cases} cases, {differences} differences")?;
         if differences > 0 {
             return Err("a case differs from what is expected".into());
         }

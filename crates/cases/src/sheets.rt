@@ -1,199 +1,76 @@
 // What sheets answer and refuse.
-use crate::report::Answer;
+use crate::asking::len;
+use crate::asking::marks;
+use crate::asking::not;
+use crate::asking::or;
+use crate::asking::proposition;
 use crate::report::Report;
-use crate::report::count;
-use crate::report::marks;
-use crate::report::number;
-use crate::report::outcome;
+use crate::report::made;
 use crate::workshop::still;
 use crate::workshop::workshop;
 use model::Draft;
 use sheet::Sheet;
 use std::error::AnyError;
 
-pub fn booleans(rt: &LibcRuntime, report: &mut Report) -> Result<(), AnyError> {
+pub fn booleans(report: &mut Report) -> Result<(), AnyError> {
     println!(
         rt,
         "questions about the workshop model, marks as the sum of 2^s"
     )?;
-    let Ok(model) = workshop() else {
-        return Err("the workshop model was refused".into());
-    };
+    let model = made(workshop())?;
     let mut sheet = Sheet::open(&model);
-    report.compare(
-        rt,
+    report.number(
         "proposition 0 has the number",
-        number(sheet.proposition(0)),
-        Answer::Number(0),
+        proposition(&mut sheet, 0),
+        0,
     )?;
-    report.compare(
-        rt,
-        "not question 0 has the number",
-        number(sheet.not(0)),
-        Answer::Number(1),
-    )?;
-    report.compare(
-        rt,
-        "question 0 or 1 has the number",
-        number(sheet.or(0, 1)),
-        Answer::Number(2),
-    )?;
-    report.compare(
-        rt,
-        "not question 2 has the number",
-        number(sheet.not(2)),
-        Answer::Number(3),
-    )?;
-    report.compare(
-        rt,
+    report.number("not question 0 has the number", not(&mut sheet, 0), 1)?;
+    report.number("question 0 or 1 has the number", or(&mut sheet, 0, 1), 2)?;
+    report.number("not question 2 has the number", not(&mut sheet, 2), 3)?;
+    report.number(
         "proposition 1 has the number",
-        number(sheet.proposition(1)),
-        Answer::Number(4),
+        proposition(&mut sheet, 1),
+        4,
     )?;
-    report.compare(
-        rt,
-        "marks of proposition 0",
-        marks(sheet.marks(0)),
-        Answer::Number(1),
-    )?;
-    report.compare(
-        rt,
-        "marks of not proposition 0",
-        marks(sheet.marks(1)),
-        Answer::Number(14),
-    )?;
-    report.compare(
-        rt,
-        "marks of yes",
-        marks(sheet.marks(2)),
-        Answer::Number(15),
-    )?;
-    report.compare(rt, "marks of no", marks(sheet.marks(3)), Answer::Number(0))?;
-    report.compare(
-        rt,
-        "marks of proposition 1",
-        marks(sheet.marks(4)),
-        Answer::Number(8),
-    )?;
+    report.number("marks of proposition 0", marks(&sheet, 0), 1)?;
+    report.number("marks of not proposition 0", marks(&sheet, 1), 14)?;
+    report.number("marks of yes", marks(&sheet, 2), 15)?;
+    report.number("marks of no", marks(&sheet, 3), 0)?;
+    report.number("marks of proposition 1", marks(&sheet, 4), 8)?;
     Ok(())
 }
 
-pub fn refusals(rt: &LibcRuntime, report: &mut Report) -> Result<(), AnyError> {
-    println!(rt, "questions that are refused")?;
+pub fn refusals(report: &mut Report) -> Result<(), AnyError> {
+    report.heading("questions that are refused")?;
     let model = still();
     let mut sheet = Sheet::open(&model);
-    report.compare(
-        rt,
-        "marks on an empty sheet",
-        outcome(sheet.marks(0)),
-        Answer::Refused(21),
-    )?;
-    report.compare(
-        rt,
-        "proposition 31",
-        outcome(sheet.proposition(31)),
-        Answer::Accepted,
-    )?;
-    report.compare(
-        rt,
-        "proposition 32",
-        outcome(sheet.proposition(32)),
-        Answer::Refused(3),
-    )?;
-    report.compare(
-        rt,
-        "not question 1",
-        outcome(sheet.not(1)),
-        Answer::Refused(21),
-    )?;
-    report.compare(
-        rt,
-        "question 0 or 1",
-        outcome(sheet.or(0, 1)),
-        Answer::Refused(21),
-    )?;
-    report.compare(
-        rt,
-        "question 1 or 0",
-        outcome(sheet.or(1, 0)),
-        Answer::Refused(21),
-    )?;
-    report.compare(
-        rt,
-        "marks of question 1",
-        outcome(sheet.marks(1)),
-        Answer::Refused(21),
-    )?;
-    report.compare(
-        rt,
-        "questions on the sheet",
-        count(sheet.len()),
-        Answer::Number(1),
-    )?;
-    report.compare(
-        rt,
-        "marks of question 0",
-        marks(sheet.marks(0)),
-        Answer::Number(0),
-    )?;
+    report.refused("marks on an empty sheet", marks(&sheet, 0), 21)?;
+    report.accepted("proposition 31", proposition(&mut sheet, 31))?;
+    report.refused("proposition 32", proposition(&mut sheet, 32), 3)?;
+    report.refused("not question 1", not(&mut sheet, 1), 21)?;
+    report.refused("question 0 or 1", or(&mut sheet, 0, 1), 21)?;
+    report.refused("question 1 or 0", or(&mut sheet, 1, 0), 21)?;
+    report.refused("marks of question 1", marks(&sheet, 1), 21)?;
+    report.number("questions on the sheet", len(&sheet), 1)?;
+    report.number("marks of question 0", marks(&sheet, 0), 0)?;
     Ok(())
 }
 
-pub fn limits(rt: &LibcRuntime, report: &mut Report) -> Result<(), AnyError> {
-    println!(rt, "64 questions")?;
+pub fn limits(report: &mut Report) -> Result<(), AnyError> {
+    report.heading("64 questions")?;
     let draft = Draft::new();
     let still = draft.seal();
     let mut sheet = Sheet::open(&still);
     for _ in 0..64 {
         let _ = sheet.proposition(0);
     }
-    report.compare(
-        rt,
-        "questions on the sheet",
-        count(sheet.len()),
-        Answer::Number(64),
-    )?;
-    report.compare(
-        rt,
-        "one more proposition",
-        outcome(sheet.proposition(0)),
-        Answer::Refused(22),
-    )?;
-    report.compare(
-        rt,
-        "proposition 32",
-        outcome(sheet.proposition(32)),
-        Answer::Refused(3),
-    )?;
-    report.compare(
-        rt,
-        "not question 63",
-        outcome(sheet.not(63)),
-        Answer::Refused(22),
-    )?;
-    report.compare(
-        rt,
-        "not question 64",
-        outcome(sheet.not(64)),
-        Answer::Refused(21),
-    )?;
-    report.compare(
-        rt,
-        "question 0 or 63",
-        outcome(sheet.or(0, 63)),
-        Answer::Refused(22),
-    )?;
-    report.compare(
-        rt,
-        "questions on the sheet",
-        count(sheet.len()),
-        Answer::Number(64),
-    )?;
-    report.compare(
-        rt,
-        "marks of question 63",
-        marks(sheet.marks(63)),
-        Answer::Number(0),
-    )?;
+    report.number("questions on the sheet", len(&sheet), 64)?;
+    report.refused("one more proposition", proposition(&mut sheet, 0), 22)?;
+    report.refused("proposition 32", proposition(&mut sheet, 32), 3)?;
+    report.refused("not question 63", not(&mut sheet, 63), 22)?;
+    report.refused("not question 64", not(&mut sheet, 64), 21)?;
+    report.refused("question 0 or 63", or(&mut sheet, 0, 63), 22)?;
+    report.number("questions on the sheet", len(&sheet), 64)?;
+    report.number("marks of question 63", marks(&sheet, 63), 0)?;
     Ok(())
 }

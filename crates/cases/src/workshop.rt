@@ -3,6 +3,7 @@ use model::Draft;
 use model::Edge;
 use model::Model;
 use model::Refusal;
+use sheet::Sheet;
 
 // Adds each of the edges.
 fn add_all(draft: &mut Draft, edges: &[Edge]) -> Result<(), Refusal> {
@@ -68,4 +69,14 @@ pub fn full_draft() -> Result<Draft, Refusal> {
         }
     }
     Ok(draft)
+}
+
+// Five questions that the cases share: 0 proposition 0, 1 its not, 2 yes (one of the two), 3 no, 4 proposition 1.
+pub fn basics(sheet: &mut Sheet) -> Result<(), Refusal> {
+    sheet.proposition(0)?;
+    sheet.not(0)?;
+    sheet.or(0, 1)?;
+    sheet.not(2)?;
+    sheet.proposition(1)?;
+    Ok(())
 }

@@ -20,11 +20,11 @@ before-map m G G′ g s l (x ∷ p) (here, rest) (now, later) = (g s l now, befo
 module _ (m : Model) (G G′ H H′ : ℕ → Type 0) (W W′ : Word → Type 0) (s : ℕ) (l : s < m .states) where
   pub good-map : Follows m G G′ → Follows m H H′ → ((w : Word) → W w → W′ w) → (p : List Step) → Good m G H W s p → Good m G′ H′ W′ s p
   good-map g h w p good = record {
-      path = good .path;
-      guarded = before-map m G G′ g s l p (good .path) (good .guarded);
-      ends = h _ (end-inside m s p l (good .path)) (good .ends);
-      spells = w _ (good .spells)
-    }
+    path = good .path;
+    guarded = before-map m G G′ g s l p (good .path) (good .guarded);
+    ends = h _ (end-inside m s p l (good .path)) (good .ends);
+    spells = w _ (good .spells);
+  }
 
   pub some-good-map : Follows m G G′ → Follows m H H′ → ((w : Word) → W w → W′ w) → SomeGood m G H W s → SomeGood m G′ H′ W′ s
   some-good-map g h w (p, good) = (p, good-map g h w p good)

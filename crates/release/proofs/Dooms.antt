@@ -37,10 +37,10 @@ use Rattle.release.proofs.Findings.{on-more, found-few, roomy-laid, sound-add}
 module _ (m : Model) (t : Table) (unkept : ℕ → Type 0) where
   pub begun-none : {rows : List NumberSet} {pile : Pile Position} → items pile ≡ [] → m .states * t .states ≤ room pile → ((p : ℕ × ℕ) → Holds rows p → ⊥) → Begun m t unkept 0 rows pile
   begun-none {rows} {pile} e space none = record {
-      bad = λ p. (λ h. absurd (none p h), λ b. absurd (omega (arith, b .0)));
-      all = λ p h. absurd (none p h);
-      roomy = record { inside = λ p h. absurd (none p h); waits = λ p o. absurd (subst (λ xs. On xs p) e o); few = omega (arith, ap length e); space = space };
-    }
+    bad = λ p. (λ h. absurd (none p h), λ b. absurd (omega (arith, b .0)));
+    all = λ p h. absurd (none p h);
+    roomy = record { inside = λ p h. absurd (none p h); waits = λ p o. absurd (subst (λ xs. On xs p) e o); few = omega (arith, ap length e); space = space };
+  }
 
   pub begun-not : {w : ℕ} {rows : List NumberSet} {pile : Pile Position} → (t .marked w ≡ true → ⊥) → Begun m t unkept w rows pile → Begun m t unkept (w + 1) rows pile
   begun-not {w} {rows} un b = record { bad = λ p. (λ h. let x = b .bad p .0 h in (omega (arith, x .0), x .1, x .2), λ x. b .bad p .1 (go p x (ℕ-discrete (p .1) w), x .1, x .2)); all = b .all; roomy = b .roomy }
@@ -51,15 +51,17 @@ module _ (m : Model) (t : Table) (unkept : ℕ → Type 0) where
 
   pub begun-here : {w : ℕ} {rows more : List NumberSet} {pile higher : Pile Position} → t .marked w ≡ true → w < t .states → ((s : ℕ) → unkept s → s < m .states) → Begun m t unkept w rows pile → Laid rows pile more higher (InRow w unkept) → Begun m t unkept (w + 1) more higher
   begun-here {w} {rows} {more} mk lt small b l = record {
-      bad = λ p. (λ h. ⊎-elim (old p) (new p) (l .found .only p h), λ x. go p x (ℕ-discrete (p .1) w));
-      all = λ p h. ⊎-elim (λ o. l .laid .keeps p (b .all p o)) (l .laid .puts p) (l .found .only p h);
-      roomy = roomy-laid m (t .states) (λ p i. (small (p .0) (i .1), omega (arith, i .0))) (b .roomy) l;
-    }
+    bad = λ p. (λ h. ⊎-elim (old p) (new p) (l .found .only p h), λ x. go p x (ℕ-discrete (p .1) w));
+    all = λ p h. ⊎-elim (λ o. l .laid .keeps p (b .all p o)) (l .laid .puts p) (l .found .only p h);
+    roomy = roomy-laid m (t .states) (λ p i. (small (p .0) (i .1), omega (arith, i .0))) (b .roomy) l;
+  }
     where
       old : (p : ℕ × ℕ) → Holds rows p → BadBelow t (w + 1) unkept p
       old p h = let x = b .bad p .0 h in (omega (arith, x .0), x .1, x .2)
+
       new : (p : ℕ × ℕ) → InRow w unkept p → BadBelow t (w + 1) unkept p
       new p i = (omega (arith, i .0), subst (λ q. t .marked q ≡ true) (sym (i .0)) mk, i .1)
+
       go : (p : ℕ × ℕ) → BadBelow t (w + 1) unkept p → Dec (p .1 ≡ w) → Holds more p
       go p x (yes e) = l .found .puts p (e, x .2)
       go p x (no ne) = l .found .keeps p (b .bad p .1 (omega (arith, x .0), x .1, x .2))
@@ -73,11 +75,11 @@ module _ (m : Model) (t : Table) (F : ℕ → Type 0) where
   module _ (rows : List NumberSet) (pile lower : Pile Position) (x : Position) (e : items pile ≡ items lower ++ x ∷ []) where
     pub roomy-pop : room lower ≡ room pile → Roomy m (t .states) rows pile → Roomy m (t .states) rows lower
     roomy-pop same r = record {
-        inside = r .inside;
-        waits = λ p o. r .waits p (subst (λ xs. On xs p) (sym e) (on-more (items lower) x .keeps p o));
-        few = omega (arith, r .few, ap length e, length-append (items lower) (x ∷ []));
-        space = omega (arith, r .space, same);
-      }
+      inside = r .inside;
+      waits = λ p o. r .waits p (subst (λ xs. On xs p) (sym e) (on-more (items lower) x .keeps p o));
+      few = omega (arith, r .few, ap length e, length-append (items lower) (x ∷ []));
+      space = omega (arith, r .space, same);
+    }
 
     pub top-inside : Roomy m (t .states) rows pile → (x .state < m .states) × (x .watch < t .states)
     top-inside r = r .inside (pair x) (r .waits (pair x) (subst (λ xs. On xs (pair x)) (sym e) (on-more (items lower) x .puts (pair x) refl)))
@@ -89,6 +91,7 @@ module _ (m : Model) (t : Table) (F : ℕ → Type 0) where
         same {a} {b} {c} {d} (yes e) (yes f) = yes (pair-is (a, b) c d e f)
         same (no n) f = no (λ e. n (ap (λ z. z .0) e))
         same (yes e) (no n) = no (λ e. n (ap (λ z. z .1) e))
+
         go : Forced m t F (Done rows lower) s q → ((y : Step) × HasEdge m (edge s y) × (pair x ≡ (y .state, step t q (y .action)))) ⊎ ((y : Step) → HasEdge m (edge s y) → pair x ≡ (y .state, step t q (y .action)) → ⊥) → Holds rows (s, q) ⊎ Upto (BackBy m t (pair x)) (m .actions) (s, q)
         go f (inl (y, h, is)) =
             let l = edge-inside m (edge s y) h .1 in
@@ -120,11 +123,11 @@ sound-bad m t F K rows unkept small is un =
 pub doomed-all : (m : Model) (t : Table) (freeing kept : NumberSet) (rows : List NumberSet) → Complete (m .actions) t → Sound m t (Has freeing) (Has kept) rows
     → ((s q : ℕ) → s < m .states → q < t .states → Bad t (Has kept) s q → Holds rows (s, q)) → ((s q : ℕ) → q < t .states → Forced m t (Has freeing) (λ u r. Holds rows (u, r)) s q → Holds rows (s, q)) → Doomed m t (Has freeing) (Has kept) rows
 doomed-all m t freeing kept rows whole sound bads closed = record {
-    inside = λ s q h. (sound (s, q) h .0, sound (s, q) h .1);
-    breaks = λ s q h π. let (n, l, b) = doomed-breaks m t (Has freeing) (Has kept) (size rows 32) s q (sound (s, q) h .2) π in (n, omega (arith, found-few m (t .states) rows (λ p x. (sound p x .0, sound p x .1))), b);
-    kept = kept-outside m t (Has freeing) (Has kept) (λ s q. Holds rows (s, q)) whole (has-dec freeing) (has-dec kept) (λ s q. holds-dec rows (s, q)) clear;
-    clear = clear;
-  }
+  inside = λ s q h. (sound (s, q) h .0, sound (s, q) h .1);
+  breaks = λ s q h π. let (n, l, b) = doomed-breaks m t (Has freeing) (Has kept) (size rows 32) s q (sound (s, q) h .2) π in (n, omega (arith, found-few m (t .states) rows (λ p x. (sound p x .0, sound p x .1))), b);
+  kept = kept-outside m t (Has freeing) (Has kept) (λ s q. Holds rows (s, q)) whole (has-dec freeing) (has-dec kept) (λ s q. holds-dec rows (s, q)) clear;
+  clear = clear;
+}
   where
     clear : (s q : ℕ) → s < m .states → q < t .states → (Holds rows (s, q) → ⊥) → (Bad t (Has kept) s q → ⊥) × (Forced m t (Has freeing) (λ u r. Holds rows (u, r)) s q → ⊥)
     clear s q a b n = (λ bad. n (bads s q a b bad), λ f. n (closed s q b f))
@@ -138,14 +141,16 @@ states-without m n all other left is alls lefts s =
 pub released : (m : Model) (t : Table) (F K : ℕ → Type 0) (rows : List NumberSet) (set : NumberSet) → t .start < t .states → Doomed m t F K rows → Exactly (Has set) (λ s. (s < m .states) × (Holds rows (s, t .start) → ⊥))
     → Released m F K (Accepts t) (m .states * t .states) set
 released m t F K rows set b doomed is = record {
-    exact = λ s. (λ h. let (a, n) = is s .0 h in (a, doomed .kept s (t .start) a b n),
-                  λ h. let (a, (π, keeps)) = h in is s .1 (a, λ x. let (n, l, breaks) = doomed .breaks s (t .start) x π in breaks-not-keeps m t F K (t .start) n π breaks keeps));
-    breaks = λ s a n π. doomed .breaks s (t .start) (sure (holds-dec rows (s, t .start)) (λ x. n (is s .1 (a, x)))) π;
-  }
+  exact = λ s. (
+    λ h. let (a, n) = is s .0 h in (a, doomed .kept s (t .start) a b n),
+    λ h. let (a, (π, keeps)) = h in is s .1 (a, λ x. let (n, l, breaks) = doomed .breaks s (t .start) x π in breaks-not-keeps m t F K (t .start) n π breaks keeps),
+  );
+  breaks = λ s a n π. doomed .breaks s (t .start) (sure (holds-dec rows (s, t .start)) (λ x. n (is s .1 (a, x)))) π;
+}
 
 -- the same words under another name
 pub released-words : (m : Model) (F K : ℕ → Type 0) (W U : Word → Type 0) (n : ℕ) (set : NumberSet) → ((w : Word) → W w → U w) → ((w : Word) → U w → W w) → Released m F K W n set → Released m F K U n set
 released-words m F K W U n set to from r = record {
-    exact = λ s. (λ h. let (a, (π, keeps)) = r .exact s .0 h in (a, (π, λ i o u. keeps i o (from _ u))), λ h. let (a, (π, keeps)) = h in r .exact s .1 (a, (π, λ i o w. keeps i o (to _ w))));
-    breaks = λ s a un π. let (k, l, (o, w, nk, nf)) = r .breaks s a un π in (k, l, (o, to _ w, nk, nf));
-  }
+  exact = λ s. (λ h. let (a, (π, keeps)) = r .exact s .0 h in (a, (π, λ i o u. keeps i o (from _ u))), λ h. let (a, (π, keeps)) = h in r .exact s .1 (a, (π, λ i o w. keeps i o (to _ w))));
+  breaks = λ s a un π. let (k, l, (o, w, nk, nf)) = r .breaks s a un π in (k, l, (o, to _ w, nk, nf));
+}

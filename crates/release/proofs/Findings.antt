@@ -56,11 +56,11 @@ size-new rows more x l new j = go (decLt (size rows 32) (size more 32))
 pub laid-one : {rows more : List NumberSet} {pile higher : Pile Position} (x : Position) → x .watch < 32 → (Holds rows (pair x) → ⊥) → Joined (Holds rows) (Holds more) (λ p. p ≡ pair x)
     → items higher ≡ items pile ++ x ∷ [] → room higher ≡ room pile → Laid rows pile more higher (λ p. p ≡ pair x)
 laid-one {rows} {more} {pile} {higher} x l new j e r = record {
-    found = j;
-    laid = subst (λ z. Joined (On (items pile)) (On z) (λ p. p ≡ pair x)) (sym e) (on-more (items pile) x);
-    fits = omega (arith, ap length e, length-append (items pile) (x ∷ []), size-new rows more (pair x) l new j);
-    room = r;
-  }
+  found = j;
+  laid = subst (λ z. Joined (On (items pile)) (On z) (λ p. p ≡ pair x)) (sym e) (on-more (items pile) x);
+  fits = omega (arith, ap length e, length-append (items pile) (x ∷ []), size-new rows more (pair x) l new j);
+  room = r;
+}
 
 pub laid-like : {rows more : List NumberSet} {pile higher : Pile Position} {D E : ℕ × ℕ → Type 0} → ((p : ℕ × ℕ) → D p → E p) → ((p : ℕ × ℕ) → E p → D p) → Laid rows pile more higher D → Laid rows pile more higher E
 laid-like to from l = record { found = joined-like _ _ to from (l .found); laid = joined-like _ _ to from (l .laid); fits = l .fits; room = l .room }
@@ -83,7 +83,7 @@ module _ (m : Model) (Q : ℕ) where
       let one : NumberSet = record { bits = 2 ^ x .0 } in
       let row : NumberSet = record { bits = bitOr (getD rows (x .1) nothing .bits) (2 ^ x .0) } in
       let j : Joined (Holds rows) (Holds (set rows (x .1) row)) (λ p. p ≡ (x .0, x .1)) = pair-added rows (x .1) row one (x .0) (omega arith) (omega (arith, m .«few_states»))
-            (λ u. (λ h. (one-exact (2 ^ x .0) (x .0) refl u .0 h, omega (arith, m .«few_states»)), λ h. one-exact (2 ^ x .0) (x .0) refl u .1 (h .0))) (or-joined (getD rows (x .1) nothing .bits) (2 ^ x .0)) in
+      (λ u. (λ h. (one-exact (2 ^ x .0) (x .0) refl u .0 h, omega (arith, m .«few_states»)), λ h. one-exact (2 ^ x .0) (x .0) refl u .1 (h .0))) (or-joined (getD rows (x .1) nothing .bits) (2 ^ x .0)) in
       let grows = size-new rows (set rows (x .1) row) (x .0, x .1) (omega arith) new j in
       let few = found-few (set rows (x .1) row) (λ p h. ⊎-elim (r .inside p) (λ e. subst (λ z. (z .0 < m .states) × (z .1 < Q)) (sym e) (a, b)) (j .only p h)) in
       omega (arith, r .few, r .space)
@@ -97,11 +97,13 @@ module _ (m : Model) (t : Table) where
         grown : (Holds rows p → ⊥) → p .1 < 32 → Dec (size rows 32 < size more 32) → suc (size rows 32) ≤ size more 32
         grown n s (yes l) = omega arith
         grown n s (no l) = absurd (n (table-same rows more (j .keeps) (omega arith) p s h))
+
         fresh : (Holds rows p → ⊥) → D p → (p .0 < m .states) × (p .1 < t .states) × DoomedWithin m t F K (size more 32) (p .0) (p .1)
         fresh n d =
             let (a, b, w) = new p d in
             let now : DoomedWithin m t F K (suc (size rows 32)) (p .0) (p .1) = ⊎-elim inl (λ f. inr (f .0, f .1, λ x y. sound _ (f .2 x y) .2)) w in
             (a, b, doomed-more m t F K (suc (size rows 32)) (size more 32) (p .0) (p .1) (grown n (omega arith) (decLt _ _)) now)
+
         go : Dec (Holds rows p) → (p .0 < m .states) × (p .1 < t .states) × DoomedWithin m t F K (size more 32) (p .0) (p .1)
         go (yes old) = let (a, b, d) = sound p old in (a, b, doomed-more m t F K (size rows 32) (size more 32) (p .0) (p .1) (table-grows rows more (j .keeps)) d)
         go (no n) = ⊎-elim (λ old. absurd (n old)) (fresh n) (j .only p h)
@@ -112,11 +114,11 @@ Taken watch all rest p = (p .1 ≡ watch) × Has all (p .0) × (Has rest (p .0) 
 
 pub laid-none : (rows : List NumberSet) (pile : Pile Position) (watch : ℕ) (all : NumberSet) → Laid rows pile rows pile (Taken watch all all)
 laid-none rows pile watch all = record {
-    found = record { keeps = λ p h. h; puts = λ p m. absurd (m .2 (m .1)); only = λ p h. inl h };
-    laid = record { keeps = λ p h. h; puts = λ p m. absurd (m .2 (m .1)); only = λ p h. inl h };
-    fits = omega arith;
-    room = refl;
-  }
+  found = record { keeps = λ p h. h; puts = λ p m. absurd (m .2 (m .1)); only = λ p h. inl h };
+  laid = record { keeps = λ p h. h; puts = λ p m. absurd (m .2 (m .1)); only = λ p h. inl h };
+  fits = omega arith;
+  room = refl;
+}
 
 -- one state after another
 pub taken-more : {a b c : List NumberSet} {x y z : Pile Position} (watch : ℕ) (all rest fewer : NumberSet) (n : ℕ) → Joined (Has fewer) (Has rest) (λ u. u ≡ n) → ((u : ℕ) → Has fewer u → u < n) → ((s : ℕ) → Has rest s → Has all s)
@@ -126,6 +128,7 @@ taken-more watch all rest fewer n j gone sub l m = laid-like to from (laid-both 
     to : (p : ℕ × ℕ) → Taken watch all rest p ⊎ (p ≡ (n, watch)) → Taken watch all fewer p
     to p (inl (e, h, k)) = (e, h, λ r. k (j .keeps (p .0) r))
     to p (inr e) = (ap (λ z. z .1) e, subst (Has all) (sym (ap (λ z. z .0) e)) (sub n (j .puts n refl)), λ r. absurd (omega (arith, gone (p .0) r, ap (λ z. z .0) e)))
+
     from : (p : ℕ × ℕ) → Taken watch all fewer p → Taken watch all rest p ⊎ (p ≡ (n, watch))
     from p (e, h, k) = go (ℕ-discrete (p .0) n)
       where

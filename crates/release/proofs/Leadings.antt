@@ -6,7 +6,6 @@ use mathlib.Core.Logic.{_⊎_, inl, inr, ⊎-elim, _≢_}
 use Prim.Native.Nat.{ℕ, _+_, _*_, _<_, _≤_}
 use native.Mathlib.Omega.{arith}
 use native.Mathlib.Decide.{ℕ-discrete}
-
 use lib.Dec.{eqb}
 use lib.ListN.{length, getD, set}
 use Rattle.std.proofs.shelf.Lists.{getD-set-same, getD-set-other}
@@ -39,8 +38,10 @@ led-exact m t rows p a n ends row left next ends-are row-is left-are = (to, from
   where
     there : (u : ℕ) → Holds rows (u, step t (p .1) a) → Has row u
     there u h = subst (λ (x : NumberSet). Has x u) (sym row-is) (subst (λ k. Has (getD rows k nothing) u) (sym next) h)
+
     to : left .bits ≡ 0 → LedBy m t rows p a
     to e u o = sure (holds-dec rows (u, step t (p .1) a)) (λ n. none-has (left .bits) u e (left-are u .1 (ends-are u .1 o, λ h. n (subst (λ k. Has (getD rows k nothing) u) next (subst (λ (x : NumberSet). Has x u) row-is h)))))
+
     from : LedBy m t rows p a → left .bits ≡ 0
     from all = empty-exact left (λ u h. let (e, n) = left-are u .0 h in n (there u (all u (ends-are u .0 e))))
 

@@ -31,26 +31,26 @@ module _ (m : Model) (t : Table) (F : ℕ → Type 0) where
   pub looked-laid : {rows more : List NumberSet} {pile higher : Pile Position} {D : ℕ × ℕ → Type 0} → t .states ≤ 32 → Roomy m (t .states) rows pile
       → ((p : ℕ × ℕ) → D p → (p .0 < m .states) × (p .1 < t .states) × Forced m t F (λ u r. Holds rows (u, r)) (p .0) (p .1)) → Laid rows pile more higher D → Looked m t F D rows pile more higher
   looked-laid {rows} {more} {pile} {higher} {D} small r new l = record {
-      keeps = l .found .keeps;
-      done = λ s q d. (⊎-elim (λ o. o) (λ n. absurd (d .1 (l .laid .puts (s, q) n))) (l .found .only (s, q) (d .0)), λ o. d .1 (l .laid .keeps (s, q) o));
-      roomy = roomy-laid m (t .states) (λ p d. let (a, b, f) = new p d in (a, b)) r l;
-      fits = l .fits;
-      room = l .room;
-      sound = λ k s. sound-add m t F (Has k) small rows more D (l .found) (λ p d. let (a, b, f) = new p d in (a, b, inr f)) s;
-      looked = λ p v f. l .found .puts p v;
-    }
+    keeps = l .found .keeps;
+    done = λ s q d. (⊎-elim (λ o. o) (λ n. absurd (d .1 (l .laid .puts (s, q) n))) (l .found .only (s, q) (d .0)), λ o. d .1 (l .laid .keeps (s, q) o));
+    roomy = roomy-laid m (t .states) (λ p d. let (a, b, f) = new p d in (a, b)) r l;
+    fits = l .fits;
+    room = l .room;
+    sound = λ k s. sound-add m t F (Has k) small rows more D (l .found) (λ p d. let (a, b, f) = new p d in (a, b, inr f)) s;
+    looked = λ p v f. l .found .puts p v;
+  }
 
   -- one after another
   pub looked-both : {a b c : List NumberSet} {x y z : Pile Position} {V U : ℕ × ℕ → Type 0} → Looked m t F V a x b y → Looked m t F U b y c z → Looked m t F (λ p. V p ⊎ U p) a x c z
   looked-both {b = b} {c} {y = y} {z} {V} {U} l n = record {
-      keeps = λ p h. n .keeps p (l .keeps p h);
-      done = λ s q d. l .done s q (n .done s q d);
-      roomy = n .roomy;
-      fits = omega (arith, l .fits, n .fits);
-      room = n .room ∙ l .room;
-      sound = λ k s. n .sound k (l .sound k s);
-      looked = λ p v f. ⊎-elim (λ old. n .keeps p (l .looked p old (f .0, f .1, λ e h. n .done _ _ (f .2 e h)))) (λ new. n .looked p new f) v;
-    }
+    keeps = λ p h. n .keeps p (l .keeps p h);
+    done = λ s q d. l .done s q (n .done s q d);
+    roomy = n .roomy;
+    fits = omega (arith, l .fits, n .fits);
+    room = n .room ∙ l .room;
+    sound = λ k s. n .sound k (l .sound k s);
+    looked = λ p v f. ⊎-elim (λ old. n .keeps p (l .looked p old (f .0, f .1, λ e h. n .done _ _ (f .2 e h)))) (λ new. n .looked p new f) v;
+  }
 
   -- fewer pairs, or the same in other words
   pub looked-like : {a b : List NumberSet} {x y : Pile Position} {V U : ℕ × ℕ → Type 0} → ((p : ℕ × ℕ) → U p → V p) → Looked m t F V a x b y → Looked m t F U a x b y

@@ -37,9 +37,11 @@ ones-subset (suc k) a b fa fb sub =
   where
     half-fits : (n : ℕ) → n < 2 ^ suc k → n / 2 < 2 ^ k
     half-fits n f = shr-below n k 1 (rw (add-one k) f)
+
     lower : Dec (a % 2 ≡ 1) → a % 2 ≤ b % 2
     lower (yes o) = let o′ : b % 2 ≡ 1 = transport (bit-odd b) (sub 0 (transport (sym (bit-odd a)) o)) in omega arith
     lower (no o) = omega arith
+
     bits : ((t : ℕ) → Bit (b / 2) t → Bit (a / 2) t) → b % 2 ≤ a % 2 → (t : ℕ) → Bit b t → Bit a t
     bits up low zero h = let o = transport (bit-odd b) h in transport (sym (bit-odd a)) (omega arith)
     bits up low (suc t) h = transport (bit-half a t) (up t (transport (sym (bit-half b t)) h))
@@ -73,7 +75,7 @@ empty-exact x none = no-bits (x .bits + 0) (x .bits) (below-pow (x .bits) 0) non
 -- the bits below S only
 ones-few : (k S n : ℕ) → n < 2 ^ k → ((t : ℕ) → Bit n t → t < S) → ones n ≤ S
 ones-few zero S n f b = let e : n ≡ 0 = omega arith in subst (λ m. ones m ≤ S) (sym e) (omega (arith, ones-step 0, ones-le 0 0 (omega arith)))
-ones-few (suc k) zero n f b = 
+ones-few (suc k) zero n f b =
     let ih = ones-few k 0 (n / 2) (shr-below n k 1 (rw (add-one k) f)) (λ t h. absurd (omega (arith, b (suc t) (transport (bit-half n t) h)))) in
     let low : n % 2 ≡ 0 = lower (ℕ-discrete (n % 2) 1) in
     omega (arith, ones-step n)
@@ -81,7 +83,7 @@ ones-few (suc k) zero n f b =
     lower : Dec (n % 2 ≡ 1) → n % 2 ≡ 0
     lower (yes o) = absurd (omega (arith, b 0 (transport (sym (bit-odd n)) o)))
     lower (no o) = omega arith
-ones-few (suc k) (suc S) n f b = 
+ones-few (suc k) (suc S) n f b =
     let ih = ones-few k S (n / 2) (shr-below n k 1 (rw (add-one k) f)) (λ t h. omega (arith, b (suc t) (transport (bit-half n t) h))) in
     omega (arith, ones-step n)
 

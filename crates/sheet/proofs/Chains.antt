@@ -2,8 +2,9 @@
 use mathlib.Core.Path.{_≡_}
 use mathlib.Core.List.{List}
 use mathlib.Core.Logic.{_⊎_, inl, inr}
-use Prim.Native.Nat.{ℕ, _<_, _≤_}
+use Prim.Native.Nat.{ℕ, _*_, _<_, _≤_}
 use native.Mathlib.Omega.{arith}
+use lib.ListN.{length}
 use Rattle.std.specs.declared.option.Option.{Option}
 use Rattle.std.specs.declared.option.Option.the-variants.{Some, None}
 use Rattle.std.proofs.shelf.Tests.{cases-lt}
@@ -70,3 +71,36 @@ until-parts m l work guard goal n free = parts-there n guard goal (passed (passe
 
 pub release-parts : (m : Model) (known : ℕ) (t : Table) (freeing kept n : ℕ) → CauseRelease m known t freeing kept n None → (freeing < n) × (kept < n)
 release-parts m known t freeing kept n free = parts-there n freeing kept (passed (passed free .1) .1)
+
+not-le : {a b : ℕ} → (a ≤ b → ⊥) → b < a
+not-le {a} {b} none = elim (cases-lt b a) [ inl l ↦ l | inr l ↦ absurd (none l) ]
+
+not-lt : {a b : ℕ} → (a < b → ⊥) → b ≤ a
+not-lt {a} {b} none = elim (cases-lt a b) [ inl l ↦ absurd (none l) | inr l ↦ l ]
+
+-- what a path search may rest on
+pub record Searchable (m : Model) (l : Told) (work waiting steps guard goal s n : ℕ) : Type 0 where
+  pub state : s < m .states
+  pub symbols : l .symbols ≤ 16
+  pub rules : length (l .rules) ≤ 128
+  pub room : l .symbols * m .states * m .states ≤ work
+  pub memory : steps ≤ waiting
+  pub guarded : guard < n
+  pub aimed : goal < n
+
+pub searchable : (m : Model) (l : Told) (work waiting steps guard goal s n : ℕ) → CausePath m l work waiting steps guard goal s None-good n None → Searchable m l work waiting steps guard goal s n
+searchable m l work waiting steps guard goal s n free =
+    let a = passed free in
+    let b = passed (passed (a .1) .1) in
+    let c = passed (b .1) in
+    let d = passed (c .1) in
+    let e = passed (d .1) in
+    record {
+      state = not-le (a .0);
+      symbols = not-lt (λ h. b .0 (inl h));
+      rules = not-lt (λ h. b .0 (inr h));
+      room = not-lt (c .0);
+      memory = not-lt (d .0);
+      guarded = not-le (λ h. e .0 (inl h));
+      aimed = not-le (λ h. e .0 (inr h));
+    }

@@ -51,11 +51,13 @@ pub to-marks : (m : Model) (f : Formula) (a : NumberSet) → Marks m f a → Fol
 to-marks m f a mk t l = mk t l .1
 
 pub marks-until : (m : Model) (f g : Formula) (rules : List Rule) (a b x : NumberSet) → Exactly (Has x) (λ s. (s < m .states) × SomeGood m (Has a) (Has b) (Derives rules 0) s) → Marks m f a → Marks m g b → Marks m (until f g rules) x
-marks-until m f g rules a b x e mk mk′ s l =
-    (λ h. some-good-map m _ _ _ _ _ _ s l (from-marks m f a mk) (from-marks m g b mk′) (λ w d. d) (e s .0 h .1),
-     λ sat. e s .1 (l, some-good-map m _ _ _ _ _ _ s l (to-marks m f a mk) (to-marks m g b mk′) (λ w d. d) sat))
+marks-until m f g rules a b x e mk mk′ s l = (
+  λ h. some-good-map m _ _ _ _ _ _ s l (from-marks m f a mk) (from-marks m g b mk′) (λ w d. d) (e s .0 h .1),
+  λ sat. e s .1 (l, some-good-map m _ _ _ _ _ _ s l (to-marks m f a mk) (to-marks m g b mk′) (λ w d. d) sat),
+)
 
 pub marks-release : (m : Model) (f g : Formula) (t : Table) (a b x : NumberSet) → Exactly (Has x) (λ s. (s < m .states) × SomeKeeps m (Has a) (Has b) (Accepts t) s) → Marks m f a → Marks m g b → Marks m (release f g t) x
-marks-release m f g t a b x e mk mk′ s l =
-    (λ h. some-keeps-map m _ _ _ _ (Accepts t) (Accepts t) s l (from-marks m f a mk) (from-marks m g b mk′) (λ w d. d) (e s .0 h .1),
-     λ sat. e s .1 (l, some-keeps-map m _ _ _ _ (Accepts t) (Accepts t) s l (to-marks m f a mk) (to-marks m g b mk′) (λ w d. d) sat))
+marks-release m f g t a b x e mk mk′ s l = (
+  λ h. some-keeps-map m _ _ _ _ (Accepts t) (Accepts t) s l (from-marks m f a mk) (from-marks m g b mk′) (λ w d. d) (e s .0 h .1),
+  λ sat. e s .1 (l, some-keeps-map m _ _ _ _ (Accepts t) (Accepts t) s l (to-marks m f a mk) (to-marks m g b mk′) (λ w d. d) sat),
+)

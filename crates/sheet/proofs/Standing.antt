@@ -87,7 +87,7 @@ module _ (old new : Sheet) (Cause : ℕ → Option ℕ → Type 0) (form : Form)
 -- what a refused asking call promises: the sheet is as it was
 pub asked-refused : (sheet : Sheet) (Cause : ℕ → Option ℕ → Type 0) (form : Form) (M : ℕ → Type 0) (f : Book → Formula) (e : Refusal) → Cause (sheet .questions .count) (Some (number e)) → Asked sheet sheet Cause form M f (Err e)
 asked-refused sheet Cause form M f e met = record {
-    cause = met;
-    done = refl;
-    right = λ book st. record { refused = subst (λ n. Cause n (Some (number e))) (sym (st .long)) met; number = tt; leaves = st }
-  }
+  cause = met;
+  done = refl;
+  right = λ book st. record { refused = subst (λ n. Cause n (Some (number e))) (sym (st .long)) met; number = tt; leaves = st };
+}

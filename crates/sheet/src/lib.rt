@@ -11,3 +11,6 @@ pub use question::QuestionDebug;
 pub use question::QuestionEq;
 pub use question::QuestionPartialEq;
 pub use sheet::Sheet;
+
+// A record of the waiting memory that a path call is lent.
+pub use least::Fact;

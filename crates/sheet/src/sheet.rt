@@ -15,6 +15,7 @@ pub struct Sheet<'m> {
 
 mod asking;
 mod causes;
+mod paths;
 mod reading;
 mod releases;
 mod untils;

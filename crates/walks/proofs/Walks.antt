@@ -37,6 +37,7 @@ module _ (s : ℕ) (P : Step → Type 0) (dec : (x : Step) → Dec (P x)) where
       later : (x : Step) → ((k : ℕ) → nth (e ∷ es) k ≡ Some (edge s x) → (k ≡ 0 → P x → ⊥) → (Among (edge s x) es → P x → ⊥) → P x → ⊥)
       later x zero h none rest p = none refl p
       later x (suc k) h none rest p = rest (k, h) p
+
       go : Dec (e .from ≡ s) → Dec (P (stepOfEdge e)) → ((x : Step) × Among (edge s x) es × P x) ⊎ ((x : Step) → Among (edge s x) es → P x → ⊥) → ((x : Step) × Among (edge s x) (e ∷ es) × P x) ⊎ ((x : Step) → Among (edge s x) (e ∷ es) → P x → ⊥)
       go f d (inl (x, (k, h), p)) = inl (x, (suc k, h), p)
       go (yes f) (yes p) (inr none) = inl (stepOfEdge e, (0, ap (λ s. Some (record { from = s; action = e .action; to = e .to })) f), p)
@@ -89,9 +90,11 @@ module _ (model : Model) (t : Table) (F K : ℕ → Type 0) (D : ℕ → ℕ →
       flip : {P : Type 0} → Dec P → Dec (P → ⊥)
       flip (yes p) = no (λ n. n p)
       flip (no n) = yes n
+
       sure : {P : Type 0} → Dec P → ((P → ⊥) → ⊥) → P
       sure (yes p) nn = p
       sure (no n) nn = absurd (nn n)
+
       go : ((x : Step) × HasEdge model (edge s x) × (D (x .state) (step t q (x .action)) → ⊥)) ⊎ ((x : Step) → HasEdge model (edge s x) → (D (x .state) (step t q (x .action)) → ⊥) → ⊥) → ((x : Step) × HasEdge model (edge s x) × Unit {0}) ⊎ ((x : Step) → HasEdge model (edge s x) → Unit {0} → ⊥) → Choice s q
       go (inl (x, e, n)) any = inr (x, e, λ _ _. n)
       go (inr all) (inl (x, e, u)) = inr (x, e, λ unforced free d. unforced (free, (x, e), λ y f. sure (decD (y .state) (step t q (y .action))) (all y f)))
@@ -196,6 +199,7 @@ module _ (model : Model) (t : Table) (F K : ℕ → Type 0) (D : ℕ → ℕ →
           where
             p : Pos
             p = (s, q)
+
             go : ((n : ℕ) × (n < suc (S * Q)) × Stops (walk (s, q) n) × ((k : ℕ) → k < n → Stops (walk (s, q) k) → ⊥)) ⊎ ((n : ℕ) → n < suc (S * Q) → Stops (walk (s, q) n) → ⊥) → (π : Maximal model s) × Keeps F K (MarkedFrom t q) π
             go (inl (n, l, h, m)) =
                 let c = along n (s, q) m in

@@ -4,7 +4,6 @@ ghost use lib.ListN.{getD};
 ghost use Rattle.model.specs.Relations.{Joined, Exactly};
 ghost use Rattle.model.specs.Sets.{Has};
 ghost use Rattle.release.specs.Arrows.{Shows};
-
 use crate::arrows::Arrows;
 use model::NumberSet;
 
@@ -13,7 +12,9 @@ impl Arrows {
     pub(crate) fn none() -> Arrows
         ensures { λ r. ⌜ ((x : ℕ × ℕ × ℕ) → Shows (r .rows) x → ⊥) ⌝ }
     {
-        Arrows { rows: [NumberSet::empty(); 512] }
+        Arrows {
+            rows: [NumberSet::empty(); 512],
+        }
     }
 
     // The other states of the action and the state.

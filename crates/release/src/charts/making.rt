@@ -4,7 +4,6 @@ ghost use Rattle.model.specs.Relations.{Exactly, Joined};
 ghost use Rattle.std.specs.declared.option.Option.the-variants.{None};
 ghost use Rattle.language.specs.Tables.{step, Complete};
 ghost use Rattle.release.specs.Arrows.{Shows, Into, Out, Back, BackFrom, Charted};
-
 use crate::arrows::Arrows;
 use crate::charts::Charts;
 use language::Watcher;

@@ -5,7 +5,6 @@ ghost use Rattle.std.specs.Orderings.{Decides};
 ghost use Rattle.model.specs.Relations.{Joined};
 ghost use Rattle.model.specs.Sets.{nothing};
 ghost use Rattle.release.specs.Pairs.{pair, Holds};
-
 use crate::position::Position;
 use crate::positions::Positions;
 use model::NumberSet;
@@ -15,7 +14,9 @@ impl Positions {
     pub(crate) fn none() -> Positions
         ensures { λ r. ⌜ ((p : ℕ × ℕ) → Holds (r .rows) p → ⊥) ⌝ }
     {
-        Positions { rows: [NumberSet::empty(); 32] }
+        Positions {
+            rows: [NumberSet::empty(); 32],
+        }
     }
 
     // The states that stand with the watcher state, which the caller keeps below 32.
@@ -39,7 +40,8 @@ impl Positions {
         requires { ⌜ position .state < 32 ⌝ ∗ ⌜ position .watch < 32 ⌝ }
         ensures { λ _. ⌜ Joined (Holds (now (self .entry) .rows)) (Holds (now (self .exit) .rows)) (λ p. p ≡ pair position) ⌝ }
     {
-        let row = self.row(position.watch).union(NumberSet::single(position.state));
+        let row = self.row(position.watch)
+            .union(NumberSet::single(position.state));
         self.rows[position.watch as usize] = row;
     }
 }

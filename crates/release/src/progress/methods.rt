@@ -3,7 +3,6 @@ ghost use Prim.Native.Nat.{ℕ, _+_, _*_, _<_};
 ghost use lib.ListN.{getD, set as with};
 ghost use Rattle.release.specs.Searches.{place};
 ghost use Rattle.release.specs.Pairs.{pair};
-
 use crate::position::Position;
 use crate::progress::Progress;
 

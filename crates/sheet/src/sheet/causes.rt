@@ -53,7 +53,11 @@ impl Sheet<'_> {
         self.check_room()
     }
 
-    pub(crate) fn check_language<L: UntilLanguage>(&self, language: &L, work: usize) -> Result<(), Refusal>
+    pub(crate) fn check_language<L: UntilLanguage>(
+        &self,
+        language: &L,
+        work: usize,
+    ) -> Result<(), Refusal>
         ensures { λ r. ⌜ Unfit (modelOf (now (self .entry))) (told (L·Alphabet .known (now (language .entry))) (L·UntilLanguage .symbols (now (language .entry))) (L·UntilLanguage .rules (now (language .entry)))) work Accept (refusal r) ⌝ }
     {
         if language.action_count() != self.model.actions() {
@@ -70,14 +74,25 @@ impl Sheet<'_> {
         Ok(())
     }
 
-    pub(crate) fn check_until<L: UntilLanguage>(&self, guard: usize, goal: usize, language: &L, work: usize) -> Result<(), Refusal>
+    pub(crate) fn check_until<L: UntilLanguage>(
+        &self,
+        guard: usize,
+        goal: usize,
+        language: &L,
+        work: usize,
+    ) -> Result<(), Refusal>
         ensures { λ r. ⌜ CauseUntil (modelOf (now (self .entry))) (told (L·Alphabet .known (now (language .entry))) (L·UntilLanguage .symbols (now (language .entry))) (L·UntilLanguage .rules (now (language .entry)))) work guard goal (now (self .entry) .questions .count) (refusal r) ⌝ }
     {
         self.check_language(language, work)?;
         self.check_or(guard, goal)
     }
 
-    pub(crate) fn check_release<W: Watcher>(&self, freeing: usize, kept: usize, watcher: &W) -> Result<(), Refusal>
+    pub(crate) fn check_release<W: Watcher>(
+        &self,
+        freeing: usize,
+        kept: usize,
+        watcher: &W,
+    ) -> Result<(), Refusal>
         ensures { λ r. ⌜ CauseRelease (modelOf (now (self .entry))) (W·Alphabet .known (now (watcher .entry))) (W·Watcher .table (now (watcher .entry))) freeing kept (now (self .entry) .questions .count) (refusal r) ⌝ }
     {
         if watcher.action_count() != self.model.actions() {
@@ -90,7 +105,16 @@ impl Sheet<'_> {
     }
 
     // All causes of a path call but the last, which only the search can tell.
-    pub(crate) fn check_path<L: UntilLanguage>(&self, guard: usize, goal: usize, language: &L, state: u8, work: usize, waiting: usize, steps: usize) -> Result<(), Refusal>
+    pub(crate) fn check_path<L: UntilLanguage>(
+        &self,
+        guard: usize,
+        goal: usize,
+        language: &L,
+        state: u8,
+        work: usize,
+        waiting: usize,
+        steps: usize,
+    ) -> Result<(), Refusal>
         ensures { λ r. ⌜ CausePath (modelOf (now (self .entry))) (told (L·Alphabet .known (now (language .entry))) (L·UntilLanguage .symbols (now (language .entry))) (L·UntilLanguage .rules (now (language .entry)))) work waiting steps guard goal state (λ _. ⊥) (now (self .entry) .questions .count) (refusal r) ⌝ }
     {
         if state >= self.model.states() {

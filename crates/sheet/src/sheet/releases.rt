@@ -18,7 +18,12 @@ use release::keeping;
 impl Sheet<'_> {
     // Asks for the states from which some maximal path keeps the release: at each moment whose word is in the watcher's
     // set the kept question holds, or the freeing question held at an earlier moment.
-    pub fn release<W: Watcher>(&mut self, freeing: usize, kept: usize, watcher: &W) -> Result<usize, Refusal>
+    pub fn release<W: Watcher>(
+        &mut self,
+        freeing: usize,
+        kept: usize,
+        watcher: &W,
+    ) -> Result<usize, Refusal>
         ensures { λ r. ⌜ Asked (now (self .entry)) (now (self .exit)) (CauseRelease (modelOf (now (self .entry))) (W·Alphabet .known (now (watcher .entry))) (W·Watcher .table (now (watcher .entry))) freeing kept) (ReleaseForm freeing kept) (λ s. (s < modelOf (now (self .entry)) .states) × SomeKeeps (modelOf (now (self .entry))) (Has (at (now (self .entry) .questions) freeing .marks)) (Has (at (now (self .entry) .questions) kept .marks)) (W·Watcher .words (now (watcher .entry))) s) (λ book. releaseOf (formula book freeing) (formula book kept) (W·Watcher .table (now (watcher .entry)))) r ⌝ }
     {
         self.check_release(freeing, kept, watcher)?;

@@ -17,9 +17,16 @@ loop-watch-holds g c = c .pre .1 .1
 pub doom-states-requires : need.doom-states-requires
 doom-states-requires g c κs =
     let e = c .state-count-watches .ensures in
-    let inv = c .loop-watch .inv in
-    (subst (λ n. Roomy (c .args .model .now) n (c .loop-watch .found .rows) (c .loop-watch .pile)) (sym e) (inv .roomy), (omega (arith, e, c .pre .0), (c .loop-watch-test .taken,
-     λ s h. (c .pre .1 .0 s h, λ x. let b = inv .bad (s, c .loop-watch .watch) .0 x in omega (arith, b .0)))))
+    let inv = c .loop-watch .inv in (
+      subst (λ n. Roomy (c .args .model .now) n (c .loop-watch .found .rows) (c .loop-watch .pile)) (sym e) (inv .roomy),
+      (
+        omega (arith, e, c .pre .0),
+        (
+          c .loop-watch-test .taken,
+          λ s h. (c .pre .1 .0 s h, λ x. let b = inv .bad (s, c .loop-watch .watch) .0 x in omega (arith, b .0)),
+        ),
+      ),
+    )
 
 pub loop-watch-again : need.loop-watch-again
 loop-watch-again g c =
@@ -29,10 +36,11 @@ loop-watch-again g c =
     let lt : c .loop-watch .watch < t .states = omega (arith, c .state-count-watches .ensures, c .loop-watch-test .taken) in
     let B : Positions → Pile Position → Type 0 = λ f p. Begun m t (Has (c .args .states)) (c .loop-watch .watch + 1) (f .rows) p in
     elim (c .if-is-marked .came) [
-      then-is-marked w ↦ subst (λ f. B f (c .if-is-marked .pile)) (sym (w .found-is)) (subst (B (w .doom-states .last .found)) (sym (w .pile-is))
-        (begun-here m t (Has (c .args .states)) (sym (c .is-marked .ensures) ∙ w .if-is-marked .taken) lt (c .pre .1 .0) inv (w .doom-states .ensures)))
-    | else-is-marked w ↦ subst (λ f. B f (c .if-is-marked .pile)) (sym (w .found-is)) (subst (B (c .loop-watch .found)) (sym (w .pile-is))
-        (begun-not m t (Has (c .args .states)) (λ e. false≢true (sym (w .if-is-marked .left) ∙ c .is-marked .ensures ∙ e)) inv)) ]
+      | then-is-marked w ↦ subst (λ f. B f (c .if-is-marked .pile)) (sym (w .found-is)) (subst (B (w .doom-states .last .found)) (sym (w .pile-is))
+          (begun-here m t (Has (c .args .states)) (sym (c .is-marked .ensures) ∙ w .if-is-marked .taken) lt (c .pre .1 .0) inv (w .doom-states .ensures)))
+      | else-is-marked w ↦ subst (λ f. B f (c .if-is-marked .pile)) (sym (w .found-is)) (subst (B (c .loop-watch .found)) (sym (w .pile-is))
+          (begun-not m t (Has (c .args .states)) (λ e. false≢true (sym (w .if-is-marked .left) ∙ c .is-marked .ensures ∙ e)) inv))
+    ]
 
 pub returns : need.returns
 returns g c =

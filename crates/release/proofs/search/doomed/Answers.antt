@@ -28,15 +28,27 @@ expand-requires g c κs =
     let taken = c .in-Some .ensures tt in
     let top = c .pop .last .place in
     let inside = top-inside m t (Has (c .args .freeing)) (c .search .found .rows) (c .search .pile) (c .pop .last .self) top (taken .items) (inv .1) in
-    record { noted = inv .2; given = (c .of-charts .ensures, (roomy-pop m t (Has (c .args .freeing)) (c .search .found .rows) (c .search .pile) (c .pop .last .self) top (taken .items) (taken .room) (inv .1),
-        (omega (arith, inside .0, m .«few_states»), omega (arith, inside .1, c .pre .0)))) }
+    record {
+      noted = inv .2;
+      given = (
+        c .of-charts .ensures,
+        (
+          roomy-pop m t (Has (c .args .freeing)) (c .search .found .rows) (c .search .pile) (c .pop .last .self) top (taken .items) (taken .room) (inv .1),
+          (omega (arith, inside .0, m .«few_states»), omega (arith, inside .1, c .pre .0)),
+        ),
+      );
+    }
 
 pub search-again : need.search-again
 search-again g c =
     let inv = c .search .inv in
-    let looked = c .expand .ensures .looked in
-    (ready-looked (c .args .model .now) (g .W·Watcher .table (c .args .watcher .now)) (Has (c .args .freeing)) (c .search .found .rows) (c .search .pile) (c .pop .last .self) (c .pop .last .place) (c .in-Some .ensures tt .items) (inv .0) looked,
-     looked .roomy, c .expand .ensures .noted, (λ k s. looked .sound k (inv .3 k s)), λ p h. looked .keeps p (inv .4 p h))
+    let looked = c .expand .ensures .looked in (
+      ready-looked (c .args .model .now) (g .W·Watcher .table (c .args .watcher .now)) (Has (c .args .freeing)) (c .search .found .rows) (c .search .pile) (c .pop .last .self) (c .pop .last .place) (c .in-Some .ensures tt .items) (inv .0) looked,
+      looked .roomy,
+      c .expand .ensures .noted,
+      (λ k s. looked .sound k (inv .3 k s)),
+      λ p h. looked .keeps p (inv .4 p h),
+    )
 
 pub search-less : need.search-less
 search-less g c =

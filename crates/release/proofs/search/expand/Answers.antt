@@ -27,5 +27,5 @@ returns g c =
     let inv = c .loop-action .inv in
     record {
       noted = inv .1;
-      looked = looked-like (c .args .model .now) (g .W·Watcher .table (c .args .watcher .now)) (Has (c .args .freeing)) (λ p v. (v .0, omega (arith, v .1, c .loop-action-test .left, c .actions-action-end .ensures), v .2)) (inv .0)
+      looked = looked-like (c .args .model .now) (g .W·Watcher .table (c .args .watcher .now)) (Has (c .args .freeing)) (λ p v. (v .0, omega (arith, v .1, c .loop-action-test .left, c .actions-action-end .ensures), v .2)) (inv .0);
     }

@@ -26,7 +26,7 @@ returns-then-not-is-led-by g c =
     record {
       noted = subst (Noted m t rows) (sym (c .note .ensures)) (noted-more m t rows (c .loop-action .progress .actions) p (c .loop-action .action) (omega (arith, c .pre .1 .1 .0, m .«few_states»))
           (omega (arith, c .pre .1 .1 .0, c .pre .1 .1 .1, m .«few_states», c .pre .0 .small, c .loop-action .progress .«all_actions»)) (c .loop-action .inv .0) (c .loop-action .inv .1));
-      led = (λ e. absurd (false≢true e), λ all. c .if-not-is-led-by .ensures tt .1 (led-each m t rows p all (c .loop-action .action)))
+      led = (λ e. absurd (false≢true e), λ all. c .if-not-is-led-by .ensures tt .1 (led-each m t rows p all (c .loop-action .action)));
     }
 
 pub returns : need.returns
@@ -35,5 +35,5 @@ returns g c =
     let t = g .W·Watcher .table (c .args .watcher .now) in
     record {
       noted = c .loop-action .inv .1;
-      led = (λ _. led-all m t (c .args .found .now .rows) (pair (c .args .position)) (λ a l. c .loop-action .inv .0 a (omega (arith, c .actions .ensures, c .loop-action-test .left))), λ _. refl)
+      led = (λ _. led-all m t (c .args .found .now .rows) (pair (c .args .position)) (λ a l. c .loop-action .inv .0 a (omega (arith, c .actions .ensures, c .loop-action-test .left))), λ _. refl);
     }

@@ -20,5 +20,5 @@ returns g c =
     let m = c .args .model .now in
     let t = g .W·Watcher .table (c .args .watcher .now) in
     let (to, from) = led-exact m t (c .args .found .now .rows) (pair (c .args .position)) (c .args .action) (c .step-of-next .result) (c .row-ends .result) (c .row .result) (c .without .result) (c .step-of-next .ensures)
-          (out-row m t (c .args .charts .now) (c .pre .0) (c .args .action) (c .args .position .state) (c .row-ends .result) (c .row-ends .ensures)) (c .row .ensures) (c .without .ensures) in
+    (out-row m t (c .args .charts .now) (c .pre .0) (c .args .action) (c .args .position .state) (c .row-ends .result) (c .row-ends .ensures)) (c .row .ensures) (c .without .ensures) in
     (λ e. to (sym (c .bits .ensures) ∙ eqb-true (c .bits .result) 0 e), λ all. eq-eqb (c .bits .result) 0 (c .bits .ensures ∙ from all))

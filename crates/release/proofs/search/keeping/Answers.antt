@@ -31,5 +31,5 @@ returns g c =
     let answer = released m t (Has (c .args .freeing)) (Has (c .args .kept)) rows (c .without .result) (g .W·Watcher·met .complete w (c .pre .0) .starts) (c .doomed-found .ensures) spared in
     record {
       accepted = answer;
-      words = released-words m (Has (c .args .freeing)) (Has (c .args .kept)) (Accepts t) (g .W·Watcher .words w) (m .states * t .states) (c .without .result) (λ u. g .W·Watcher·met .«only_accepted» w u (c .pre .0)) (λ u. g .W·Watcher·met .accepted w u (c .pre .0)) answer
+      words = released-words m (Has (c .args .freeing)) (Has (c .args .kept)) (Accepts t) (g .W·Watcher .words w) (m .states * t .states) (c .without .result) (λ u. g .W·Watcher·met .«only_accepted» w u (c .pre .0)) (λ u. g .W·Watcher·met .accepted w u (c .pre .0)) answer;
     }

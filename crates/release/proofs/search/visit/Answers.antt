@@ -12,15 +12,15 @@ use Rattle.release.proofs.search.visit.Needs as need
 
 pub returns-then-has : need.returns-then-has
 returns-then-has g c = record {
-    noted = c .pre .noted;
-    looked = looked-freed (c .args .model .now) (g .W·Watcher .table (c .args .watcher .now)) (Has (c .args .freeing)) (pair (c .args .position)) (c .pre .given .1 .0) (c .if-has .ensures tt .0 refl)
-  }
+  noted = c .pre .noted;
+  looked = looked-freed (c .args .model .now) (g .W·Watcher .table (c .args .watcher .now)) (Has (c .args .freeing)) (pair (c .args .position)) (c .pre .given .1 .0) (c .if-has .ensures tt .0 refl);
+}
 
 pub returns-then-has-2 : need.returns-then-has-2
 returns-then-has-2 g c = record {
-    noted = c .pre .noted;
-    looked = looked-found (c .args .model .now) (g .W·Watcher .table (c .args .watcher .now)) (Has (c .args .freeing)) (pair (c .args .position)) (c .pre .given .1 .0) (c .if-has-2 .ensures tt .0 refl)
-  }
+  noted = c .pre .noted;
+  looked = looked-found (c .args .model .now) (g .W·Watcher .table (c .args .watcher .now)) (Has (c .args .freeing)) (pair (c .args .position)) (c .pre .given .1 .0) (c .if-has-2 .ensures tt .0 refl);
+}
 
 pub is-led-requires : need.is-led-requires
 is-led-requires g c κs =
@@ -33,9 +33,13 @@ doom-requires g c κs =
     let leaves = c .pre .given .1 .1 .0 in
     let s = edge-inside m _ (leaves .1) .0 in
     let small = c .pre .given .0 .small in
-    let new : Holds (c .args .found .now .rows) (pair (c .args .position)) → ⊥ = λ h. clash (c .if-has-2 .ensures tt .1 h) in
-    (omega (arith, s, m .«few_states»), (omega (arith, small, c .pre .given .1 .1 .1),
-     (room-new m (g .W·Watcher .table (c .args .watcher .now) .states) (c .args .found .now .«all_rows») small (c .pre .given .1 .0) (pair (c .args .position)) s (c .pre .given .1 .1 .1) new, new)))
+    let new : Holds (c .args .found .now .rows) (pair (c .args .position)) → ⊥ = λ h. clash (c .if-has-2 .ensures tt .1 h) in (
+      omega (arith, s, m .«few_states»),
+      (
+        omega (arith, small, c .pre .given .1 .1 .1),
+        (room-new m (g .W·Watcher .table (c .args .watcher .now) .states) (c .args .found .now .«all_rows») small (c .pre .given .1 .0) (pair (c .args .position)) s (c .pre .given .1 .1 .1) new, new),
+      ),
+    )
 
 pub returns-then-is-led : need.returns-then-is-led
 returns-then-is-led g c =
@@ -45,7 +49,7 @@ returns-then-is-led g c =
     record {
       noted = noted-keeps m t (c .args .found .now .rows) (c .doom .last .found .rows) (c .is-led .last .progress .actions) (c .doom .ensures .found .keeps) (c .is-led .ensures .noted);
       looked = looked-led m t (Has (c .args .freeing)) (pair (c .args .position)) (c .pre .given .1 .0) (c .pre .given .0 .small) (edge-inside m _ (leaves .1) .0) (c .pre .given .1 .1 .1)
-          (λ f. clash (c .if-has .ensures tt .1 f)) leaves (c .if-is-led .ensures tt .led .0 refl) (c .doom .ensures)
+          (λ f. clash (c .if-has .ensures tt .1 f)) leaves (c .if-is-led .ensures tt .led .0 refl) (c .doom .ensures);
     }
 
 pub returns-else-is-led : need.returns-else-is-led
@@ -54,5 +58,5 @@ returns-else-is-led g c =
     let t = g .W·Watcher .table (c .args .watcher .now) in
     record {
       noted = c .is-led .ensures .noted;
-      looked = looked-unled m t (Has (c .args .freeing)) (pair (c .args .position)) (c .pre .given .1 .0) (λ l. clash (c .if-is-led .ensures tt .led .1 l))
+      looked = looked-unled m t (Has (c .args .freeing)) (pair (c .args .position)) (c .pre .given .1 .0) (λ l. clash (c .if-is-led .ensures tt .led .1 l));
     }

@@ -29,9 +29,11 @@ pub loop-watch-again : need.loop-watch-again
 loop-watch-again g c =
     let q = c .in-Some .watch in
     let E = c .in-Some .ensures tt in
-    let inv = c .loop-watch .inv in
-    (looked-taken (c .args .model .now) (g .W·Watcher .table (c .args .watcher .now)) (Has (c .args .freeing)) (λ k p. InRow k (Has (c .row-states .result)) p) (c .row-rest .result) (c .loop-watch .rest) (c .take-last .last .self) q (E .1) (inv .0) (c .visit-states .ensures .looked),
-     c .visit-states .ensures .noted, λ u h. inv .2 u (E .1 .keeps u h))
+    let inv = c .loop-watch .inv in (
+      looked-taken (c .args .model .now) (g .W·Watcher .table (c .args .watcher .now)) (Has (c .args .freeing)) (λ k p. InRow k (Has (c .row-states .result)) p) (c .row-rest .result) (c .loop-watch .rest) (c .take-last .last .self) q (E .1) (inv .0) (c .visit-states .ensures .looked),
+      c .visit-states .ensures .noted,
+      λ u h. inv .2 u (E .1 .keeps u h),
+    )
 
 pub returns : need.returns
 returns g c =
@@ -45,5 +47,5 @@ returns g c =
     record {
       noted = inv .1;
       looked = looked-like m t (Has (c .args .freeing))
-          (λ p v. (p .1, steps (p .1) .1 (v .1), (λ h. bit-none (p .1) (subst (λ (x : NumberSet). Has x (p .1)) empty h)), (refl, starts (p .0) .1 (v .0)))) (inv .0)
+          (λ p v. (p .1, steps (p .1) .1 (v .1), (λ h. bit-none (p .1) (subst (λ (x : NumberSet). Has x (p .1)) empty h)), (refl, starts (p .0) .1 (v .0)))) (inv .0);
     }

@@ -23,9 +23,11 @@ pub loop-state-again : need.loop-state-again
 loop-state-again g c =
     let s = c .in-Some .state in
     let E = c .in-Some .ensures tt in
-    let inv = c .loop-state .inv in
-    (looked-taken (c .args .model .now) (g .W·Watcher .table (c .args .watcher .now)) (Has (c .args .freeing)) (λ k p. p ≡ (k, c .args .watch)) (c .args .states) (c .loop-state .rest) (c .take-last .last .self) s (E .1) (inv .0) (c .visit .ensures .looked),
-     c .visit .ensures .noted, λ u h. inv .2 u (E .1 .keeps u h))
+    let inv = c .loop-state .inv in (
+      looked-taken (c .args .model .now) (g .W·Watcher .table (c .args .watcher .now)) (Has (c .args .freeing)) (λ k p. p ≡ (k, c .args .watch)) (c .args .states) (c .loop-state .rest) (c .take-last .last .self) s (E .1) (inv .0) (c .visit .ensures .looked),
+      c .visit .ensures .noted,
+      λ u h. inv .2 u (E .1 .keeps u h),
+    )
 
 pub returns : need.returns
 returns g c =
@@ -34,5 +36,5 @@ returns g c =
     record {
       noted = inv .1;
       looked = looked-like (c .args .model .now) (g .W·Watcher .table (c .args .watcher .now)) (Has (c .args .freeing))
-          (λ p v. (p .0, v .1, (λ h. bit-none (p .0) (subst (λ (x : NumberSet). Has x (p .0)) empty h)), pair-is p (p .0) (c .args .watch) refl (v .0))) (inv .0)
+          (λ p v. (p .0, v .1, (λ h. bit-none (p .0) (subst (λ (x : NumberSet). Has x (p .0)) empty h)), pair-is p (p .0) (c .args .watch) refl (v .0))) (inv .0);
     }

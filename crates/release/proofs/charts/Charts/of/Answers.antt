@@ -8,9 +8,10 @@ use Rattle.release.proofs.charts.Charts.of.Needs as need
 
 pub arrows-back-requires : need.arrows-back-requires
 arrows-back-requires g c κs =
-    let t = g .W·Watcher .table (c .args .watcher .now) in
-    (omega (arith, c .actions .ensures, c .args .model .now .«few_actions»),
-     (subst (λ n. Complete n t) (c .pre .1 ∙ sym (c .actions .ensures)) (g .W·Watcher·met .complete (c .args .watcher .now) (c .pre .0)), c .pre .0))
+    let t = g .W·Watcher .table (c .args .watcher .now) in (
+      omega (arith, c .actions .ensures, c .args .model .now .«few_actions»),
+      (subst (λ n. Complete n t) (c .pre .1 ∙ sym (c .actions .ensures)) (g .W·Watcher·met .complete (c .args .watcher .now) (c .pre .0)), c .pre .0),
+    )
 
 pub returns : need.returns
 returns g c =
@@ -20,5 +21,5 @@ returns g c =
       whole = subst (λ n. Complete n t) (c .pre .1) (g .W·Watcher·met .complete (c .args .watcher .now) (c .pre .0));
       into = c .arrows-into .ensures;
       out = c .arrows-out .ensures;
-      back = subst (λ n. Exactly (Shows (c .arrows-back .result .rows)) (Back n t)) (c .actions .ensures) (c .arrows-back .ensures)
+      back = subst (λ n. Exactly (Shows (c .arrows-back .result .rows)) (Back n t)) (c .actions .ensures) (c .arrows-back .ensures);
     }

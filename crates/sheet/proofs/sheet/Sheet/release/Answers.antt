@@ -34,10 +34,10 @@ returns g c =
     let left : c .marks-frees .result ≡ a = c .marks-frees .ensures ∙ ap (λ y. y .marks) (c .get .ensures) in
     let right : c .marks-keeps .result ≡ b = c .marks-keeps .ensures ∙ ap (λ y. y .marks) (c .get-2 .ensures) in
     let accepted : Exactly (Has x) (λ s. (s < m .states) × SomeKeeps m (Has a) (Has b) (Accepts t) s) =
-        subst (λ z. Exactly (Has x) (λ s. (s < m .states) × SomeKeeps m (Has a) (Has z) (Accepts t) s)) right
-          (subst (λ y. Exactly (Has x) (λ s. (s < m .states) × SomeKeeps m (Has y) (Has (c .marks-keeps .result)) (Accepts t) s)) left (c .keeping-marks .ensures .accepted .exact)) in
+    subst (λ z. Exactly (Has x) (λ s. (s < m .states) × SomeKeeps m (Has a) (Has z) (Accepts t) s)) right
+    (subst (λ y. Exactly (Has x) (λ s. (s < m .states) × SomeKeeps m (Has y) (Has (c .marks-keeps .result)) (Accepts t) s)) left (c .keeping-marks .ensures .accepted .exact)) in
     let spelt : Exactly (Has x) (λ s. (s < m .states) × SomeKeeps m (Has a) (Has b) words s) =
-        subst (λ z. Exactly (Has x) (λ s. (s < m .states) × SomeKeeps m (Has a) (Has z) words s)) right
-          (subst (λ y. Exactly (Has x) (λ s. (s < m .states) × SomeKeeps m (Has y) (Has (c .marks-keeps .result)) words s)) left (c .keeping-marks .ensures .words .exact)) in
+    subst (λ z. Exactly (Has x) (λ s. (s < m .states) × SomeKeeps m (Has a) (Has z) words s)) right
+    (subst (λ y. Exactly (Has x) (λ s. (s < m .states) × SomeKeeps m (Has y) (Has (c .marks-keeps .result)) words s)) left (c .keeping-marks .ensures .words .exact)) in
     asked _ _ _ _ _ _ x _ free (c .add .ensures .number) (c .add .ensures .model) (c .add .ensures .added) spelt
-      (λ book st. marks-release m (formula book freeing) (formula book kept) t a b x accepted (st .right freeing (there .0)) (st .right kept (there .1))) (λ _. (t, refl))
+    (λ book st. marks-release m (formula book freeing) (formula book kept) t a b x accepted (st .right freeing (there .0)) (st .right kept (there .1))) (λ _. (t, refl))

@@ -34,14 +34,14 @@ returns g c =
     let left : c .marks-holds .result ≡ a = c .marks-holds .ensures ∙ ap (λ y. y .marks) (c .get .ensures) in
     let right : c .marks-reached .result ≡ b = c .marks-reached .ensures ∙ ap (λ y. y .marks) (c .get-2 .ensures) in
     let derived : Exactly (Has x) (λ s. (s < m .states) × SomeGood m (Has a) (Has b) (Derives rules 0) s) =
-        subst (λ z. Exactly (Has x) (λ s. (s < m .states) × SomeGood m (Has a) (Has z) (Derives rules 0) s)) right
-          (subst (λ y. Exactly (Has x) (λ s. (s < m .states) × SomeGood m (Has y) (Has (c .marks-reached .result)) (Derives rules 0) s)) left (c .satisfying-marks .ensures .derived)) in
+    subst (λ z. Exactly (Has x) (λ s. (s < m .states) × SomeGood m (Has a) (Has z) (Derives rules 0) s)) right
+    (subst (λ y. Exactly (Has x) (λ s. (s < m .states) × SomeGood m (Has y) (Has (c .marks-reached .result)) (Derives rules 0) s)) left (c .satisfying-marks .ensures .derived)) in
     let words = g .L·UntilLanguage .words (c .args .language .now) in
     let spelt : Exactly (Has x) (λ s. (s < m .states) × SomeGood m (Has a) (Has b) words s) =
-        subst (λ z. Exactly (Has x) (λ s. (s < m .states) × SomeGood m (Has a) (Has z) words s)) right
-          (subst (λ y. Exactly (Has x) (λ s. (s < m .states) × SomeGood m (Has y) (Has (c .marks-reached .result)) words s)) left (c .satisfying-marks .ensures .words)) in
+    subst (λ z. Exactly (Has x) (λ s. (s < m .states) × SomeGood m (Has a) (Has z) words s)) right
+    (subst (λ y. Exactly (Has x) (λ s. (s < m .states) × SomeGood m (Has y) (Has (c .marks-reached .result)) words s)) left (c .satisfying-marks .ensures .words)) in
     record {
       asked = asked _ _ _ _ _ _ x _ free (c .add .ensures .number) (c .add .ensures .model) (c .add .ensures .added) spelt
-        (λ book st. marks-until m (formula book guard) (formula book goal) rules a b x derived (st .right guard (there .0)) (st .right goal (there .1))) (λ _. (rules, refl));
-      work = tt
+          (λ book st. marks-until m (formula book guard) (formula book goal) rules a b x derived (st .right guard (there .0)) (st .right goal (there .1))) (λ _. (rules, refl));
+      work = tt;
     }

@@ -1,0 +1,4 @@
+pub mod Heights
+pub mod Rows
+pub mod Stretches
+pub mod Rooms

@@ -1,0 +1,5 @@
+pub mod Rows
+pub mod Passing
+pub mod Grammars
+pub mod Automata
+pub mod BracketWords

@@ -1,0 +1,4 @@
+pub mod Walking
+pub mod Least
+pub mod Runs
+pub mod Turns

@@ -1,0 +1,145 @@
+// Lowering by the rules that have a fact as a part.
+ghost use mathlib.Core.Path.{_≡_};
+ghost use Prim.Native.Nat.{ℕ, _<_, _≤_};
+ghost use lib.ListN.{length};
+ghost use denote.Ref.{now as behind};
+ghost use Rattle.model.specs.Models.{HasEdge};
+ghost use Rattle.language.specs.Rules.{SymbolsBelow};
+ghost use Rattle.language.specs.declared.rule.Rule.the-variants.{Lead, Pair};
+ghost use Rattle.least.specs.Entries.{triple, In, Room};
+ghost use Rattle.least.specs.Lowering.{Always, Anyhow, LedAt, ShutAt};
+use crate::fact::Fact;
+use crate::lowering::join;
+use crate::lowering::lift;
+use crate::scope::Scope;
+use language::Rule;
+use model::Edge;
+
+// By a pair rule with the fact as its first part.
+fn expand_left(work: &mut [u32], scope: &Scope, top: u32, fact: Fact, head: u8, right: u8) -> bool
+    requires { ⌜ Room (now scope) top (length (now work)) ⌝ ∗ ⌜ In (now scope) (triple fact) ⌝ ∗ ⌜ head < now scope .symbols ⌝ ∗ ⌜ right < now scope .symbols ⌝ }
+    ensures { λ r. ⌜ Always (now (scope .entry)) (Pair head (fact .symbol) right) (ShutAt (now (scope .entry)) top (Pair head (fact .symbol) right) (triple fact)) (now (work .entry)) (now (work .exit)) r ⌝ }
+{
+    let mut fell = false;
+    let part = scope.cell(fact.symbol, fact.from, fact.to);
+    for to in 0..scope.states() {
+        let other = scope.cell(right, fact.to, to);
+        fell |= join(work, top, part, other, scope.cell(head, fact.from, to));
+    }
+    fell
+}
+
+// By a pair rule with the fact as its second part.
+fn expand_right(work: &mut [u32], scope: &Scope, top: u32, fact: Fact, head: u8, left: u8) -> bool
+    requires { ⌜ Room (now scope) top (length (now work)) ⌝ ∗ ⌜ In (now scope) (triple fact) ⌝ ∗ ⌜ head < now scope .symbols ⌝ ∗ ⌜ left < now scope .symbols ⌝ }
+    ensures { λ r. ⌜ Always (now (scope .entry)) (Pair head left (fact .symbol)) Anyhow (now (work .entry)) (now (work .exit)) r ⌝ }
+{
+    let mut fell = false;
+    let part = scope.cell(fact.symbol, fact.from, fact.to);
+    for from in 0..scope.states() {
+        let other = scope.cell(left, from, fact.from);
+        fell |= join(work, top, other, part, scope.cell(head, from, fact.to));
+    }
+    fell
+}
+
+// By an edge with the action, and then the fact.
+fn lead_by(
+    work: &mut [u32],
+    scope: &Scope,
+    top: u32,
+    fact: Fact,
+    head: u8,
+    action: u8,
+    edge: Edge,
+) -> bool
+    requires { ⌜ Room (now scope) top (length (now work)) ⌝ ∗ ⌜ In (now scope) (triple fact) ⌝ ∗ ⌜ head < now scope .symbols ⌝ ∗ ⌜ HasEdge (behind (now scope .model)) edge ⌝ }
+    ensures { λ r. ⌜ Always (now (scope .entry)) (Lead head action (fact .symbol)) (LedAt (now (scope .entry)) top head action (triple fact) edge) (now (work .entry)) (now (work .exit)) r ⌝ }
+{
+    if edge.action == action && edge.to == fact.from && scope.guard().has(edge.from) {
+        let part = scope.cell(fact.symbol, fact.from, fact.to);
+        return lift(work, top, part, 1, scope.cell(head, edge.from, fact.to));
+    }
+    false
+}
+
+// By a lead rule before the fact.
+fn expand_lead(work: &mut [u32], scope: &Scope, top: u32, fact: Fact, head: u8, action: u8) -> bool
+    requires { ⌜ Room (now scope) top (length (now work)) ⌝ ∗ ⌜ In (now scope) (triple fact) ⌝ ∗ ⌜ head < now scope .symbols ⌝ }
+    ensures { λ r. ⌜ Always (now (scope .entry)) (Lead head action (fact .symbol)) (ShutAt (now (scope .entry)) top (Lead head action (fact .symbol)) (triple fact)) (now (work .entry)) (now (work .exit)) r ⌝ }
+{
+    let mut fell = false;
+    for edge in scope.edges() {
+        fell |= lead_by(work, scope, top, fact, head, action, *edge);
+    }
+    fell
+}
+
+// By a pair rule, where the fact can be its first part.
+fn expand_first(
+    work: &mut [u32],
+    scope: &Scope,
+    top: u32,
+    fact: Fact,
+    head: u8,
+    left: u8,
+    right: u8,
+) -> bool
+    requires { ⌜ Room (now scope) top (length (now work)) ⌝ ∗ ⌜ In (now scope) (triple fact) ⌝ ∗ ⌜ SymbolsBelow (now scope .symbols) (Pair head left right) ⌝ }
+    ensures { λ r. ⌜ Always (now (scope .entry)) (Pair head left right) (ShutAt (now (scope .entry)) top (Pair head left right) (triple fact)) (now (work .entry)) (now (work .exit)) r ⌝ }
+{
+    if left != fact.symbol {
+        return false;
+    }
+    expand_left(work, scope, top, fact, head, right)
+}
+
+// By a pair rule, where the fact can be its second part.
+fn expand_second(
+    work: &mut [u32],
+    scope: &Scope,
+    top: u32,
+    fact: Fact,
+    head: u8,
+    left: u8,
+    right: u8,
+) -> bool
+    requires { ⌜ Room (now scope) top (length (now work)) ⌝ ∗ ⌜ In (now scope) (triple fact) ⌝ ∗ ⌜ SymbolsBelow (now scope .symbols) (Pair head left right) ⌝ }
+    ensures { λ r. ⌜ Always (now (scope .entry)) (Pair head left right) Anyhow (now (work .entry)) (now (work .exit)) r ⌝ }
+{
+    if right != fact.symbol {
+        return false;
+    }
+    expand_right(work, scope, top, fact, head, left)
+}
+
+// By the rule, where the fact can be a part of it; as the second part of a pair only if `both` is set.
+pub fn expand(work: &mut [u32], scope: &Scope, top: u32, fact: Fact, rule: Rule, both: bool) -> bool
+    requires { ⌜ Room (now scope) top (length (now work)) ⌝ ∗ ⌜ In (now scope) (triple fact) ⌝ ∗ ⌜ SymbolsBelow (now scope .symbols) rule ⌝ }
+    ensures { λ r. ⌜ Always (now (scope .entry)) rule (ShutAt (now (scope .entry)) top rule (triple fact)) (now (work .entry)) (now (work .exit)) r ⌝ }
+{
+    match rule {
+        Rule::Lead { head, action, rest } => {
+            if rest != fact.symbol {
+                return false;
+            }
+            expand_lead(work, scope, top, fact, head, action)
+        }
+        Rule::Same { head, body } => {
+            if body != fact.symbol {
+                return false;
+            }
+            let part = scope.cell(fact.symbol, fact.from, fact.to);
+            lift(work, top, part, 0, scope.cell(head, fact.from, fact.to))
+        }
+        Rule::Pair { head, left, right } => {
+            let first = expand_first(work, scope, top, fact, head, left, right);
+            if !both {
+                return first;
+            }
+            let second = expand_second(work, scope, top, fact, head, left, right);
+            first | second
+        }
+        Rule::Empty { .. } | Rule::Letter { .. } => false,
+    }
+}
