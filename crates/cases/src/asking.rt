@@ -4,7 +4,16 @@ use crate::report::count;
 use language::UntilLanguage;
 use language::Watcher;
 use model::Refusal;
+use model::Step;
+use sheet::Fact;
 use sheet::Sheet;
+
+// The two questions of an until.
+#[derive(Clone, Copy)]
+pub struct Parts {
+    pub guard: usize,
+    pub goal: usize,
+}
 
 // The number that a call answered.
 fn numbered(answer: Result<usize, Refusal>) -> Answer {
@@ -38,6 +47,24 @@ pub fn until<L: UntilLanguage>(
 
 pub fn release<W: Watcher>(sheet: &mut Sheet, freeing: usize, kept: usize, watcher: &W) -> Answer {
     numbered(sheet.release(freeing, kept, watcher))
+}
+
+// How many steps the path shown has.
+pub fn path<L: UntilLanguage>(
+    sheet: &Sheet,
+    question: Parts,
+    language: &L,
+    state: u8,
+    work: &mut [u32],
+    waiting: &mut [Fact],
+    steps: &mut [Step],
+) -> Answer {
+    let Parts { guard, goal } = question;
+    match sheet.path(guard, goal, language, state, work, waiting, steps) {
+        Ok(None) => Answer::Nothing,
+        Ok(Some(n)) => count(n),
+        Err(cause) => Answer::Refused(cause.number()),
+    }
 }
 
 // The marks as the sum of 2^s.

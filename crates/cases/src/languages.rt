@@ -103,6 +103,73 @@ pub fn circles() -> Result<Grammar, Refusal> {
     grammar(4, 2, &rules)
 }
 
+// The empty word alone, by rules that go in circles.
+pub fn empty_circles() -> Result<Grammar, Refusal> {
+    let rules = [
+        Rule::Pair {
+            head: 0,
+            left: 0,
+            right: 1,
+        },
+        Rule::Pair {
+            head: 0,
+            left: 1,
+            right: 0,
+        },
+        Rule::Same { head: 0, body: 1 },
+        Rule::Same { head: 1, body: 0 },
+        Rule::Empty { head: 1 },
+    ];
+    grammar(2, 2, &rules)
+}
+
+// As large as a grammar can be: 16 symbols, 8 rules for each.
+pub fn crowded() -> Result<Grammar, Refusal> {
+    let mut grammar = Grammar::new();
+    grammar.size(16, 8)?;
+    for head in 0..16u8 {
+        grammar.add_rule(Rule::Letter {
+            head,
+            action: head % 8,
+        })?;
+        grammar.add_rule(Rule::Lead {
+            head,
+            action: (head + 1) % 8,
+            rest: (head + 3) % 16,
+        })?;
+        grammar.add_rule(Rule::Lead {
+            head,
+            action: (head + 5) % 8,
+            rest: (head + 7) % 16,
+        })?;
+        grammar.add_rule(Rule::Lead {
+            head,
+            action: (head + 3) % 8,
+            rest: (head + 13) % 16,
+        })?;
+        grammar.add_rule(Rule::Same {
+            head,
+            body: (head + 1) % 16,
+        })?;
+        grammar.add_rule(Rule::Pair {
+            head,
+            left: (head + 2) % 16,
+            right: (head + 5) % 16,
+        })?;
+        grammar.add_rule(Rule::Pair {
+            head,
+            left: (head + 9) % 16,
+            right: (head + 4) % 16,
+        })?;
+        grammar.add_rule(Rule::Pair {
+            head,
+            left: (head + 11) % 16,
+            right: head,
+        })?;
+    }
+    Ok(grammar)
+}
+
 // A language of 17 symbols, which every call refuses.
 #[derive(Clone, Copy)]
 pub struct Seventeen;

@@ -2,6 +2,7 @@
 mod asking;
 mod drafts;
 mod languages;
+mod paths;
 mod releases;
 mod report;
 mod sheets;
@@ -21,6 +22,11 @@ fn run(rt: &LibcRuntime) -> Result<(), AnyError> {
     sheets::limits(&mut report)?;
     untils::marked(&mut report)?;
     untils::refused(&mut report)?;
+    paths::counted(&mut report)?;
+    paths::circling(&mut report)?;
+    paths::refused(&mut report)?;
+    paths::long(&mut report)?;
+    paths::large(&mut report)?;
     releases::marked(&mut report)?;
     releases::stopped(&mut report)?;
     releases::nested(&mut report)?;

@@ -94,10 +94,7 @@ fn after_action_1() -> Result<TableWatcher, model::Refusal> {
 }
 
 pub fn nested(report: &mut Report) -> Result<(), AnyError> {
-    println!(
-        rt,
-        "untils and releases in one another, over several languages and watchers"
-    )?;
+    report.heading("untils and releases in one another, over several languages and watchers")?;
     let model = made(workshop())?;
     let odd = made(StepWatcher::new(2, 1, 2))?;
     let table = made(after_action_1())?;

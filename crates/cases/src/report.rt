@@ -1,5 +1,6 @@
 // Counts what was compared, and prints each comparison.
 use model::Refusal;
+use std::alloc::Global;
 use std::error::AnyError;
 use std::fmt;
 use std::io;
@@ -12,6 +13,8 @@ pub enum Answer {
     Refused(u8),
     // a count, or marks as the sum of 2^s
     Number(u32),
+    // no path
+    Nothing,
 }
 
 impl fmt::Display for Answer as AnswerDisplay {
@@ -20,6 +23,7 @@ impl fmt::Display for Answer as AnswerDisplay {
             Answer::Accepted => write!(f, "accepted"),
             Answer::Refused(number) => write!(f, "refused with {number}"),
             Answer::Number(n) => write!(f, "{n}"),
+            Answer::Nothing => write!(f, "none"),
         }
     }
 }
@@ -61,6 +65,11 @@ impl<'a> Report<'a> {
         }
     }
 
+    // The allocator, for memory that the cases lend.
+    pub fn heap(&self) -> Global {
+        self.rt.alloc()
+    }
+
     // What the next comparisons are about.
     pub fn heading(&self, text: &str) -> io::Result<()> {
         println!(self.rt, "{text}")
@@ -82,6 +91,10 @@ impl<'a> Report<'a> {
 
     pub fn refused(&mut self, what: &str, found: Answer, expected: u8) -> io::Result<()> {
         self.compare(what, found, Answer::Refused(expected))
+    }
+
+    pub fn none(&mut self, what: &str, found: Answer) -> io::Result<()> {
+        self.compare(what, found, Answer::Nothing)
     }
 
     pub fn accepted(&mut self, what: &str, found: Answer) -> io::Result<()> {

@@ -13,10 +13,7 @@ use sheet::Sheet;
 use std::error::AnyError;
 
 pub fn booleans(report: &mut Report) -> Result<(), AnyError> {
-    println!(
-        rt,
-        "questions about the workshop model, marks as the sum of 2^s"
-    )?;
+    report.heading("questions about the workshop model, marks as the sum of 2^s")?;
     let model = made(workshop())?;
     let mut sheet = Sheet::open(&model);
     report.number(

@@ -71,6 +71,36 @@ pub fn full_draft() -> Result<Draft, Refusal> {
     Ok(draft)
 }
 
+// One state with an edge back to it by its one action; it has proposition 0.
+pub fn spinning() -> Result<Model, Refusal> {
+    let mut draft = Draft::new();
+    draft.add_edge(Edge {
+        from: 0,
+        action: 0,
+        to: 0,
+    })?;
+    draft.label(0, 0)?;
+    Ok(draft.seal())
+}
+
+// As large as a model can be: 32 states, 8 edges out of each, proposition 1 at state 31.
+pub fn dense() -> Result<Model, Refusal> {
+    let mut draft = Draft::new();
+    draft.size(32, 8)?;
+    for from in 0..32u8 {
+        for action in 0..8u8 {
+            draft.add_edge(Edge {
+                from,
+                action,
+                to: (from * 3 + action * 5 + 1) % 32,
+            })?;
+        }
+    }
+    draft.label(0, 0)?;
+    draft.label(31, 1)?;
+    Ok(draft.seal())
+}
+
 // Five questions that the cases share: 0 proposition 0, 1 its not, 2 yes (one of the two), 3 no, 4 proposition 1.
 pub fn basics(sheet: &mut Sheet) -> Result<(), Refusal> {
     sheet.proposition(0)?;

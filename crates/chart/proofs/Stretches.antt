@@ -1,11 +1,11 @@
 -- What the rules give is derived; and where they give nothing new, all that is derived is there.
-use mathlib.Core.Path.{_≡_, refl, sym, ap, subst, _∙_}
+use mathlib.Core.Path.{_≡_, refl, sym, ap, subst}
 use mathlib.Core.List.{List, [], _∷_, _++_}
-use Prim.Native.Nat.{ℕ, zero, suc, _+_, _*_, _-_, _<_, _≤_}
+use Prim.Native.Nat.{ℕ, zero, suc, _+_, _-_, _<_, _≤_}
 use native.Mathlib.Omega.{arith}
 use lib.ListN.{length, getD, drop}
 use Rattle.std.specs.Finite.{nth}
-use Rattle.std.specs.declared.option.Option.the-variants.{Some, None}
+use Rattle.std.specs.declared.option.Option.the-variants.{Some}
 use Rattle.std.proofs.shelf.Lists.{drop-more, drop-all, length-drop}
 use Rattle.std.proofs.shelf.Maps.{nth-getD}
 use Rattle.model.specs.Relations.{Among}
@@ -15,7 +15,7 @@ use Rattle.language.specs.Rules.{headOf}
 use Rattle.language.specs.Derivations.{Yields, DerivesWithin, Derives}
 use Rattle.language.specs.declared.rule.Rule.{Rule}
 use Rattle.language.specs.declared.rule.Rule.the-variants.{Empty, Letter, Lead, Same, Pair}
-use Rattle.chart.specs.Charts.{Triple, Spells, Stretch, Gives, ByRule, ByRules}
+use Rattle.chart.specs.Charts.{Triple, Spells, Stretch, Gives, ByRules}
 use Rattle.chart.proofs.Heights.{by-empty, by-letter, by-lead, by-same, by-pair}
 
 module _ (w : Word) where

@@ -1,13 +1,13 @@
 -- Words that close d brackets more than they open.
 use mathlib.Core.Path.{_≡_, refl, sym, ap, subst, _∙_}
-use mathlib.Core.List.{List, [], _∷_, _++_}
+use mathlib.Core.List.{[], _∷_, _++_}
 use mathlib.Core.Logic.{inl, inr}
-use Prim.Native.Nat.{ℕ, zero, suc, _+_, _-_, _<_, _≤_}
+use Prim.Native.Nat.{ℕ, zero, suc, _+_, _-_, _≤_}
 use native.Mathlib.Omega.{arith}
 use lib.ListN.{length, take}
 use Rattle.std.proofs.shelf.Lists.{take-append-le}
 use Rattle.std.proofs.shelf.Tests.{cond-true, cond-false, eq-eqb, ne-eqb, cases-lt, cases-eq}
-use Rattle.language.specs.Words.{Word, Known}
+use Rattle.language.specs.Words.{Word}
 use Rattle.kinds.specs.BracketWords.{times}
 
 -- from depth d on: the word ends at depth 0, and no beginning of it goes below
@@ -27,10 +27,6 @@ times-append x (a ∷ u) v = elim (cases-eq a x) [
   | inl e ↦ let hit : (w : Word) → times x (a ∷ w) ≡ suc (times x w) = λ w. cond-true _ _ _ (eq-eqb a x e) in omega (arith, hit (u ++ v), hit u, times-append x u v)
   | inr ne ↦ omega (arith, times-miss x a (u ++ v) ne, times-miss x a u ne, times-append x u v)
 ]
-
-pub known-append : (n : ℕ) (u v : Word) → Known n u → Known n v → Known n (u ++ v)
-known-append n [] v k l = l
-known-append n (a ∷ u) v k l = (k .0, known-append n u v (k .1) l)
 
 -- a beginning of two words that goes past the first
 take-past : (n : ℕ) (u v : Word) → length u ≤ n → take n (u ++ v) ≡ u ++ take (n - length u) v

@@ -1,7 +1,7 @@
 -- The test of a rule says what it names.
 use mathlib.Core.Path.{_≡_}
 use mathlib.Core.Bool.{true, _&&_}
-use Prim.Native.Nat.{ℕ, _<_}
+use Prim.Native.Nat.{ℕ}
 use lib.Dec.{ltb}
 use Rattle.std.proofs.shelf.Tests.{lt-ltb, ltb-true, and-from, and-parts}
 use Rattle.language.specs.Rules.{SymbolsBelow, ActionsBelow}

@@ -2,13 +2,12 @@
 use mathlib.Core.Path.{_≡_, refl, sym, ap, subst, _∙_}
 use mathlib.Core.Bool.{Bool, true, false, not, _&&_}
 use mathlib.Core.List.{List, [], _∷_, _++_, map, append-assoc}
-use mathlib.Core.Logic.{_⊎_, inl, inr}
+use mathlib.Core.Logic.{inl, inr}
 use Prim.Native.Nat.{ℕ, zero, suc, _+_, _-_, _<_, _≤_}
 use native.Mathlib.Omega.{arith}
 use lib.Dec.{eqb}
 use lib.ListN.{length, getD, set, replicate, length-set}
 use Rattle.std.specs.Finite.{nth}
-use Rattle.std.specs.declared.option.Option.the-variants.{Some, None}
 use Rattle.std.proofs.shelf.Lists.{getD-set-same, getD-set-other, getD-replicate, length-replicate, length-map}
 use Rattle.std.proofs.shelf.Tests.{and-from, and-left, and-right, and-parts, not-true, not-from-true, not-from-false, eq-eqb, ne-eqb, eqb-false, cases-eq}
 use Rattle.model.specs.Relations.{Among}
@@ -17,12 +16,12 @@ use Rattle.language.specs.Derivations.{Yields, DerivesWithin, Derives}
 use Rattle.language.specs.declared.rule.Rule.{Rule}
 use Rattle.language.specs.declared.rule.Rule.the-variants.{Empty, Lead, Pair}
 use Rattle.kinds.specs.declared.brackets.Brackets.{Brackets}
-use Rattle.kinds.specs.Passing.{passing, markedBelow}
-use Rattle.kinds.specs.BracketWords.{times, otherAction, othersOf, told, Balanced, BracketWords}
+use Rattle.kinds.specs.Passing.{markedBelow}
+use Rattle.kinds.specs.BracketWords.{times, otherAction, othersOf, told, BracketWords}
 use Rattle.kinds.proofs.Members.{among-map, among-mapped}
 use Rattle.kinds.proofs.Passed.{passing-few, passing-among, among-passing, passing-alike}
-use Rattle.chart.proofs.Heights.{by-empty, by-lead, by-pair}
-use Rattle.kinds.proofs.Balance.{Closes, known-append, closes-none, closes-up, closes-down, closes-other, closes-append, up-closes, down-closes, down-never, other-closes}
+use Rattle.chart.proofs.Heights.{by-empty, by-lead, by-pair, known-append}
+use Rattle.kinds.proofs.Balance.{Closes, closes-none, closes-up, closes-down, closes-other, closes-append, up-closes, down-closes, down-never, other-closes}
 
 -- all marked but two
 pub marks-others : (n u d : ℕ) → u < n → d < n → (a : ℕ) → a < n → getD (set (set (replicate n true) u false) d false) a false ≡ (not (eqb a u) && not (eqb a d))

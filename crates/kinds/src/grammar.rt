@@ -1,6 +1,6 @@
 // A language by its rules.
 ghost use mathlib.Core.Path.{_≡_};
-ghost use Prim.Native.Nat.{ℕ, _<_, _≤_};
+ghost use Prim.Native.Nat.{_≤_};
 ghost use lib.ListN.{length};
 ghost use Rattle.model.specs.Relations.{Distinct};
 ghost use Rattle.kinds.specs.Rows.{noRule, AllFit};

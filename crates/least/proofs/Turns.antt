@@ -2,9 +2,11 @@
 use mathlib.Core.Path.{_≡_, refl, sym, subst, ap, _∙_}
 use mathlib.Core.List.{List, [], _∷_}
 use mathlib.Core.Bool.{Bool, true, false}
-use Prim.Native.Nat.{ℕ, _+_, _*_, _/_, _%_, _<_, _≤_}
+use Prim.Native.Nat.{ℕ, _+_, _-_, _*_, _<_, _≤_}
 use native.Mathlib.Omega.{arith}
+use native.Mathlib.Decide.{decLe, ℕ-discrete}
 use native.Mathlib.Nat.{mul-le-mul-right}
+use mathlib.Core.Logic.{_⊎_, inl, inr, ⊎-elim}
 use lib.ListN.{getD, length}
 use denote.Ref.{now}
 use Rattle.std.specs.Finite.{nth}
@@ -20,9 +22,9 @@ use Rattle.logic.specs.Facts.{Triple}
 use Rattle.least.specs.declared.scope.Scope.{Scope}
 use Rattle.least.specs.Walks.{Walk, Leads}
 use Rattle.least.specs.Entries.{groundOf, place, entryOf, In, Known, AtMost, Sound, Closed, Room}
-use Rattle.least.specs.Lowering.{Lowers, Given, Lifted, Summed, Run, PairAt, LedAt, LetterAt, EmptyAt, ShutAt, ShutStart, ShutStarts, ShutAll, ShutIn, ShutRule, FirstPart}
+use Rattle.least.specs.Lowering.{Lowers, Given, Lifted, Summed, Run, PairAt, Lower, LedAt, LedAlong, LetterAt, EmptyAt, ShutAt, ShutStart, ShutStarts, ShutAll, ShutIn, ShutRule, FirstPart}
 use Rattle.least.proofs.Walking.{walk-from, edge-inside}
-use Rattle.least.proofs.Runs.{run-of, run-like}
+use Rattle.least.proofs.Runs.{run-of, run-none, run-like}
 
 pub is-in : (c : Scope) (X u t : ℕ) → X < c .symbols → u < c .states → t < c .states → In c (X, u, t)
 is-in c X u t a b d = record { symbol = a; from = b; to = d }
@@ -44,6 +46,10 @@ in-cells c long cell p l i e = subst (λ n. n < long) (sym e) (place-in c long p
 
 pub in-table : (c : Scope) (top long cell : ℕ) (p : Triple) → Room c top long → In c p → cell ≡ place (c .states) p → cell < long
 in-table c top long cell p r i e = in-cells c long cell p (r .cells) i e
+
+-- the row of a symbol and a from-state is in the table
+pub row-in : (c : Scope) (top long cell X u : ℕ) → Room c top long → X < c .symbols → u < c .states → cell ≡ place (c .states) (X, u, 0) → cell + c .states ≤ long
+row-in c top long cell X u r lx lu e = let l = place-in c long (X, u, c .states - 1) (r .cells) (is-in c X u (c .states - 1) lx lu (omega arith)) in omega (arith, l, e)
 
 pub room-at : (c : Scope) (top a b : ℕ) → b ≡ a → Room c top a → Room c top b
 room-at c top a b e r = subst (Room c top) (sym e) r
@@ -70,6 +76,28 @@ module _ (c : Scope) (rules : List Rule) (top : ℕ) where
       subst (λ (y : Triple). AtMost n (entryOf c a y)) (ap (λ y. (y, s, p .2)) (sym x) ∙ ap (λ y. (p .0, y, p .2)) (sym e₁))
       (at (p .2) (kn₂ .there .to) n (i, j, subst (λ (y : Triple). entryOf c a y ≡ i + 1) q (kn₁ .is), subst (λ y. entryOf c a (C, y, p .2) ≡ j + 1) e₂ (kn₂ .is), z) n<)) j
 
+  -- a fact with no entry, or one above the top, gives nothing less
+  pub left-far : (H B C s u : ℕ) (w : List ℕ) → (entryOf c w (B, s, u) ≡ 0) ⊎ (top < entryOf c w (B, s, u)) → Run c rules (ShutAt c top (Pair H B C) (B, s, u)) w w false
+  left-far H B C s u w far = left-all H B C s u w w false (run-none c rules w _ (λ t l n (i, j, e₁, e₂, z) n<. ⊎-elim (λ y. absurd (omega arith)) (λ y. absurd (omega arith)) far))
+
+  -- nor does one with which no entry of the row is lower
+  pub left-none : (H B C s u known others heads : ℕ) (w : List ℕ) → known ≡ entryOf c w (B, s, u) → others ≡ place (c .states) (C, u, 0) → heads ≡ place (c .states) (H, s, 0)
+      → ((k : ℕ) → k < c .states → Lower top known (getD w (others + k) 0) (getD w (heads + k) 0) → ⊥) → Run c rules (ShutAt c top (Pair H B C) (B, s, u)) w w false
+  left-none H B C s u known others heads w e o h none = left-all H B C s u w w false (run-none c rules w _ (λ t l n (i, j, e₁, e₂, z) n<.
+      let eo : others + t ≡ place (c .states) (C, u, t) = omega arith in
+      let eh : heads + t ≡ place (c .states) (H, s, t) = omega arith in
+      let second : getD w (others + t) 0 ≡ j + 1 = ap (λ x. getD w x 0) eo ∙ e₂ in
+      let same : getD w (heads + t) 0 ≡ entryOf c w (H, s, t) = ap (λ x. getD w x 0) eh in
+      not-lower known (getD w (others + t) 0) (getD w (heads + t) 0) n (entryOf c w (H, s, t)) same (omega arith) (omega arith) (omega arith) (none t l)))
+    where
+      not-lower : (known second old n entry : ℕ) → old ≡ entry → 0 < second → known + second ≡ n + 2 → n < top → (Lower top known second old → ⊥) → AtMost n entry
+      not-lower known second old n entry same pos sum low none = go (ℕ-discrete old 0) (decLe old (n + 1))
+        where
+          go : Dec (old ≡ 0) → Dec (old ≤ n + 1) → AtMost n entry
+          go (yes z) d = absurd (none (pos, omega arith, inl z))
+          go (no nz) (yes l) = record { some = omega arith; low = omega arith }
+          go (no nz) (no l) = absurd (none (pos, omega arith, inr (omega arith)))
+
   pub lead-turn : (H act B s t : ℕ) (e : Edge) (part cell : ℕ) {before after : List ℕ} {fell : Bool} → Room c top (length before) → Among (Lead H act B) rules → HasEdge (now (c .model)) e
       → e .action ≡ act → Has (c .guard) (e .from) → e .to ≡ s → In c (B, s, t) → In c (H, e .from, t)
       → part ≡ place (c .states) (B, s, t) → cell ≡ place (c .states) (H, e .from, t)
@@ -80,13 +108,11 @@ module _ (c : Scope) (rules : List Rule) (top : ℕ) where
       (λ so n (i, f, z). walk-from (groundOf c) rules (Lead H act B) (H, e .from, t) n r∈ (refl, e, (e∈, refl, ea, g), i, subst (λ y. Walk (groundOf c) rules (B, y, t) i) (sym es) (so (B, s, t) i (record { there = i₁; is = f })), z))
       (subst (λ x. Lowers top x (Lifted (place (c .states) (B, s, t)) 1) before after fell) e₂ (subst (λ x. Lowers top cell (Lifted x 1) before after fell) e₁ j)))
 
-  pub lead-all : (H act B s t : ℕ) (a b : List ℕ) (fell : Bool) → Run c rules (λ w. (e : Edge) → HasEdge (now (c .model)) e → LedAt c top H act (B, s, t) e w) a b fell
-      → Run c rules (ShutAt c top (Lead H act B) (B, s, t)) a b fell
-  lead-all H act B s t a b fell j = run-like c rules _ (λ at p n n< (x, e, (e∈, f, ea, g), i, (q, kn), z).
-      let e₁ : e .to ≡ s = ap (λ (y : Triple). y .1) q in
-      let e₂ : p .2 ≡ t = ap (λ (y : Triple). y .2) q in
-      subst (λ (y : Triple). AtMost n (entryOf c a y)) (ap (λ y. (y, e .from, t)) (sym x) ∙ ap (λ y. (p .0, y, t)) (sym f) ∙ ap (λ y. (p .0, p .1, y)) (sym e₂))
-      (at e e∈ ea g e₁ n (i, subst (λ (y : Triple). entryOf c a y ≡ i + 1) q (kn .is), z) n<)) j
+  pub lead-all : (low high H act B : ℕ) (a b : List ℕ) (fell : Bool) → Run c rules (λ w. (e : Edge) → HasEdge (now (c .model)) e → LedAlong c top low high H act B e w) a b fell
+      → Run c rules (ShutRule c top low high (Lead H act B)) a b fell
+  lead-all low high H act B a b fell j = run-like c rules _ (λ at f i lo hi p n n< (x, e, (e∈, fr, ea, g), k, (q, kn), z).
+      subst (λ (y : Triple). AtMost n (entryOf c a y)) (ap (λ y. (y, e .from, p .2)) (sym x) ∙ ap (λ y. (p .0, y, p .2)) (sym fr))
+      (at e e∈ (p .2) (kn .there .to) (subst (λ y. low ≤ entryOf c a y) (sym q) lo) (subst (λ y. entryOf c a y ≤ high) (sym q) hi) ea g refl n (k, kn .is, z) n<)) j
 
   pub letter-turn : (H act : ℕ) (e : Edge) (cell : ℕ) {before after : List ℕ} {fell : Bool} → Room c top (length before) → Among (Letter H act) rules → HasEdge (now (c .model)) e
       → e .action ≡ act → Has (c .guard) (e .from) → In c (H, e .from, e .to) → cell ≡ place (c .states) (H, e .from, e .to)
@@ -145,9 +171,7 @@ module _ (c : Scope) (rules : List Rule) (top : ℕ) where
       → Run c rules (ShutRule c top low high r) a b fell
   part-all low high (Empty H) X none j = absurd none
   part-all low high (Letter H a) X none j = absurd none
-  part-all low high (Lead H act B) X {a} is j = run-like c rules _ (λ at f i lo hi p n n< (x, e, ld, k, (q, kn), z).
-      subst (λ Y. ShutIn c top low high (Lead H act B) (Y, e .to, p .2) a) is (at (e .to) (kn .there .from) (p .2) (kn .there .to))
-      (subst (λ y. low ≤ entryOf c a y) (sym q) lo) (subst (λ y. entryOf c a y ≤ high) (sym q) hi) p n n< (x, e, ld, k, (refl, kn), z)) j
+  part-all low high (Lead H act B) X none j = absurd none
   part-all low high (Same H B) X {a} is j = run-like c rules _ (λ at f i lo hi p n n< (x, (q, kn)).
       subst (λ Y. ShutIn c top low high (Same H B) (Y, p .1, p .2) a) is (at (p .1) (kn .there .from) (p .2) (kn .there .to))
       (subst (λ y. low ≤ entryOf c a y) (sym q) lo) (subst (λ y. entryOf c a y ≤ high) (sym q) hi) p n n< (x, (refl, kn))) j

@@ -30,6 +30,10 @@ Lifted part more w n = (j : ℕ) × (getD w part 0 ≡ j + 1) × (n ≡ j + more
 abbrev pub Summed : ℕ → ℕ → List ℕ → ℕ → Type 0
 Summed left right w n = (i : ℕ) × (j : ℕ) × (getD w left 0 ≡ i + 1) × (getD w right 0 ≡ j + 1) × (n ≡ i + j)
 
+-- the entries `known` and `second` together are less than `old` and at most the top
+abbrev pub Lower : ℕ → ℕ → ℕ → ℕ → Type 0
+Lower top known second old = (0 < second) × (known + second ≤ top + 1) × ((old ≡ 0) ⊎ (known + second ≤ old))
+
 -- the sum of the entries, where none counts most
 unfoldable pub weight : List ℕ → ℕ
 weight [] = 0
@@ -57,6 +61,14 @@ PairAt c top f g h w = (n : ℕ) → Summed (place (c .states) f) (place (c .sta
 -- nothing less comes by this edge before the fact f
 abbrev pub LedAt : Scope → ℕ → ℕ → ℕ → Triple → Edge → List ℕ → Type 0
 LedAt c top H a f e w = e .action ≡ a → Has (c .guard) (e .from) → e .to ≡ f .1 → (n : ℕ) → Lifted (place (c .states) f) 1 w n → n < top → AtMost n (entryOf c w (H, e .from, f .2))
+
+-- the same for the fact of B to t, if its entry lies between low and high
+abbrev pub LedIn : Scope → ℕ → ℕ → ℕ → ℕ → ℕ → ℕ → Edge → ℕ → List ℕ → Type 0
+LedIn c top low high H a B e t w = low ≤ entryOf c w (B, e .to, t) → entryOf c w (B, e .to, t) ≤ high → LedAt c top H a (B, e .to, t) e w
+
+-- for all facts of B
+abbrev pub LedAlong : Scope → ℕ → ℕ → ℕ → ℕ → ℕ → ℕ → Edge → List ℕ → Type 0
+LedAlong c top low high H a B e w = (t : ℕ) → t < c .states → LedIn c top low high H a B e t w
 
 -- nothing less comes by this edge alone
 abbrev pub LetterAt : Scope → ℕ → ℕ → ℕ → Edge → List ℕ → Type 0
@@ -90,21 +102,29 @@ ShutAt c top (Lead H a B) f w = ShutBy c top (Lead H a B) f w
 ShutAt c top (Same H B) f w = ShutBy c top (Same H B) f w
 ShutAt c top (Pair H B C) f w = ShutBy c top (Pair H B C) f w
 
--- X is the symbol of the rule's first part
+-- the same, of a rule that has a part and makes no step of its own
+abbrev pub ShutOn : Scope → ℕ → Rule → Triple → List ℕ → Type 0
+ShutOn c top (Empty H) f w = Unit {0}
+ShutOn c top (Letter H a) f w = Unit {0}
+ShutOn c top (Lead H a B) f w = Unit {0}
+ShutOn c top (Same H B) f w = ShutBy c top (Same H B) f w
+ShutOn c top (Pair H B C) f w = ShutBy c top (Pair H B C) f w
+
+-- X is the symbol of the first part of such a rule
 abbrev pub FirstPart : Rule → ℕ → Type 0
 FirstPart (Empty H) X = ⊥
 FirstPart (Letter H a) X = ⊥
-FirstPart (Lead H a B) X = X ≡ B
+FirstPart (Lead H a B) X = ⊥
 FirstPart (Same H B) X = X ≡ B
 FirstPart (Pair H B C) X = X ≡ B
 
 -- if the fact's entry lies between low and high
 abbrev pub ShutIn : Scope → ℕ → ℕ → ℕ → Rule → Triple → List ℕ → Type 0
-ShutIn c top low high r f w = low ≤ entryOf c w f → entryOf c w f ≤ high → ShutAt c top r f w
+ShutIn c top low high r f w = low ≤ entryOf c w f → entryOf c w f ≤ high → ShutOn c top r f w
 
--- with any fact whose entry lies there
+-- no rule with a part gives less with any fact whose entry lies there
 abbrev pub ShutRule : Scope → ℕ → ℕ → ℕ → Rule → List ℕ → Type 0
-ShutRule c top low high r w = (f : Triple) → In c f → ShutIn c top low high r f w
+ShutRule c top low high r w = (f : Triple) → In c f → low ≤ entryOf c w f → entryOf c w f ≤ high → ShutAt c top r f w
 
 -- the same of all rules
 abbrev pub ShutAll : Scope → List Rule → ℕ → ℕ → ℕ → List ℕ → Type 0

@@ -2,26 +2,33 @@
 ghost use mathlib.Core.Path.{_≡_};
 ghost use Prim.Native.Nat.{ℕ, _<_, _≤_};
 ghost use lib.ListN.{length};
-ghost use denote.Ref.{now as behind};
-ghost use Rattle.model.specs.Models.{HasEdge};
 ghost use Rattle.language.specs.Rules.{SymbolsBelow};
-ghost use Rattle.language.specs.declared.rule.Rule.the-variants.{Lead, Pair};
+ghost use Rattle.language.specs.declared.rule.Rule.the-variants.{Pair};
 ghost use Rattle.least.specs.Entries.{triple, In, Room};
-ghost use Rattle.least.specs.Lowering.{Always, Anyhow, LedAt, ShutAt};
+ghost use Rattle.least.specs.Lowering.{Always, Anyhow, ShutAt, ShutOn};
 use crate::fact::Fact;
+use crate::lowering::any_lower;
 use crate::lowering::join;
 use crate::lowering::lift;
 use crate::scope::Scope;
 use language::Rule;
-use model::Edge;
 
 // By a pair rule with the fact as its first part.
 fn expand_left(work: &mut [u32], scope: &Scope, top: u32, fact: Fact, head: u8, right: u8) -> bool
     requires { ⌜ Room (now scope) top (length (now work)) ⌝ ∗ ⌜ In (now scope) (triple fact) ⌝ ∗ ⌜ head < now scope .symbols ⌝ ∗ ⌜ right < now scope .symbols ⌝ }
     ensures { λ r. ⌜ Always (now (scope .entry)) (Pair head (fact .symbol) right) (ShutAt (now (scope .entry)) top (Pair head (fact .symbol) right) (triple fact)) (now (work .entry)) (now (work .exit)) r ⌝ }
 {
-    let mut fell = false;
     let part = scope.cell(fact.symbol, fact.from, fact.to);
+    let known = work[part];
+    if known == 0 || known > top {
+        return false;
+    }
+    let others = scope.cell(right, fact.to, 0);
+    let heads = scope.cell(head, fact.from, 0);
+    if !any_lower(work, top, known, others, heads, scope.states() as usize) {
+        return false;
+    }
+    let mut fell = false;
     for to in 0..scope.states() {
         let other = scope.cell(right, fact.to, to);
         fell |= join(work, top, part, other, scope.cell(head, fact.from, to));
@@ -39,38 +46,6 @@ fn expand_right(work: &mut [u32], scope: &Scope, top: u32, fact: Fact, head: u8,
     for from in 0..scope.states() {
         let other = scope.cell(left, from, fact.from);
         fell |= join(work, top, other, part, scope.cell(head, from, fact.to));
-    }
-    fell
-}
-
-// By an edge with the action, and then the fact.
-fn lead_by(
-    work: &mut [u32],
-    scope: &Scope,
-    top: u32,
-    fact: Fact,
-    head: u8,
-    action: u8,
-    edge: Edge,
-) -> bool
-    requires { ⌜ Room (now scope) top (length (now work)) ⌝ ∗ ⌜ In (now scope) (triple fact) ⌝ ∗ ⌜ head < now scope .symbols ⌝ ∗ ⌜ HasEdge (behind (now scope .model)) edge ⌝ }
-    ensures { λ r. ⌜ Always (now (scope .entry)) (Lead head action (fact .symbol)) (LedAt (now (scope .entry)) top head action (triple fact) edge) (now (work .entry)) (now (work .exit)) r ⌝ }
-{
-    if edge.action == action && edge.to == fact.from && scope.guard().has(edge.from) {
-        let part = scope.cell(fact.symbol, fact.from, fact.to);
-        return lift(work, top, part, 1, scope.cell(head, edge.from, fact.to));
-    }
-    false
-}
-
-// By a lead rule before the fact.
-fn expand_lead(work: &mut [u32], scope: &Scope, top: u32, fact: Fact, head: u8, action: u8) -> bool
-    requires { ⌜ Room (now scope) top (length (now work)) ⌝ ∗ ⌜ In (now scope) (triple fact) ⌝ ∗ ⌜ head < now scope .symbols ⌝ }
-    ensures { λ r. ⌜ Always (now (scope .entry)) (Lead head action (fact .symbol)) (ShutAt (now (scope .entry)) top (Lead head action (fact .symbol)) (triple fact)) (now (work .entry)) (now (work .exit)) r ⌝ }
-{
-    let mut fell = false;
-    for edge in scope.edges() {
-        fell |= lead_by(work, scope, top, fact, head, action, *edge);
     }
     fell
 }
@@ -113,18 +88,12 @@ fn expand_second(
     expand_right(work, scope, top, fact, head, left)
 }
 
-// By the rule, where the fact can be a part of it; as the second part of a pair only if `both` is set.
+// By a same or pair rule, where the fact can be a part of it; as the second part of a pair only if `both` is set.
 pub fn expand(work: &mut [u32], scope: &Scope, top: u32, fact: Fact, rule: Rule, both: bool) -> bool
     requires { ⌜ Room (now scope) top (length (now work)) ⌝ ∗ ⌜ In (now scope) (triple fact) ⌝ ∗ ⌜ SymbolsBelow (now scope .symbols) rule ⌝ }
-    ensures { λ r. ⌜ Always (now (scope .entry)) rule (ShutAt (now (scope .entry)) top rule (triple fact)) (now (work .entry)) (now (work .exit)) r ⌝ }
+    ensures { λ r. ⌜ Always (now (scope .entry)) rule (ShutOn (now (scope .entry)) top rule (triple fact)) (now (work .entry)) (now (work .exit)) r ⌝ }
 {
     match rule {
-        Rule::Lead { head, action, rest } => {
-            if rest != fact.symbol {
-                return false;
-            }
-            expand_lead(work, scope, top, fact, head, action)
-        }
         Rule::Same { head, body } => {
             if body != fact.symbol {
                 return false;
@@ -140,6 +109,6 @@ pub fn expand(work: &mut [u32], scope: &Scope, top: u32, fact: Fact, rule: Rule,
             let second = expand_second(work, scope, top, fact, head, left, right);
             first | second
         }
-        Rule::Empty { .. } | Rule::Letter { .. } => false,
+        Rule::Empty { .. } | Rule::Letter { .. } | Rule::Lead { .. } => false,
     }
 }

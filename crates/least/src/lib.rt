@@ -2,6 +2,7 @@
 mod band;
 mod expanding;
 mod fact;
+mod leading;
 mod lowering;
 mod scope;
 mod starting;

@@ -1,8 +1,10 @@
 // Lowering one entry of a table.
 ghost use mathlib.Core.Path.{_≡_};
-ghost use Prim.Native.Nat.{ℕ, _<_, _≤_};
-ghost use lib.ListN.{length};
-ghost use Rattle.least.specs.Lowering.{Lowers, Given, Lifted, Summed};
+ghost use mathlib.Core.Bool.{false};
+ghost use Prim.Native.Nat.{ℕ, _+_, _<_, _≤_};
+ghost use lib.ListN.{length, getD};
+ghost use Rattle.std.specs.Orderings.{Decides};
+ghost use Rattle.least.specs.Lowering.{Lowers, Given, Lifted, Summed, Lower};
 
 // Lowers the entry at the cell to the given one, if it is none or more.
 pub fn lower(work: &mut [u32], top: u32, cell: usize, given: u32) -> bool
@@ -27,6 +29,33 @@ pub fn lift(work: &mut [u32], top: u32, part: usize, more: u32, cell: usize) -> 
         return false;
     }
     lower(work, top, cell, known + more)
+}
+
+// Whether the entries `known` and `second` together are less than `old` and at most the top.
+fn is_lower(top: u32, known: u32, second: u32, old: u32) -> bool
+    requires { ⌜ 0 < known ⌝ ∗ ⌜ known ≤ 4097 ⌝ ∗ ⌜ top ≤ 4097 ⌝ }
+    ensures { λ r. ⌜ Decides r (Lower top known second old) ⌝ }
+{
+    second != 0 && second <= top && known + second <= top + 1 && (old == 0 || known + second <= old)
+}
+
+// Whether the entry `known` with one of the row at `others` gives less than stands in the row at `heads`.
+pub fn any_lower(
+    work: &[u32],
+    top: u32,
+    known: u32,
+    others: usize,
+    heads: usize,
+    count: usize,
+) -> bool
+    requires { ⌜ 0 < known ⌝ ∗ ⌜ known ≤ 4097 ⌝ ∗ ⌜ top ≤ 4097 ⌝ ∗ ⌜ others + count ≤ length (now work) ⌝ ∗ ⌜ heads + count ≤ length (now work) ⌝ }
+    ensures { λ r. ⌜ (r ≡ false → (k : ℕ) → k < count → Lower top known (getD (now (work .entry)) (others + k) 0) (getD (now (work .entry)) (heads + k) 0) → ⊥) ⌝ }
+{
+    let mut lower = false;
+    for k in 0..count {
+        lower |= is_lower(top, known, work[others + k], work[heads + k]);
+    }
+    lower
 }
 
 // Lowers the entry at the cell by what two parts give together.

@@ -9,6 +9,7 @@ ghost use Rattle.least.specs.Lowering.{Always, Run, ShutIn, ShutRule, ShutAll,
 use crate::band::Band;
 use crate::expanding::expand;
 use crate::fact::Fact;
+use crate::leading::sweep_lead;
 use crate::scope::Scope;
 use crate::starting::start_rule;
 use language::Rule;
@@ -74,7 +75,7 @@ fn sweep_rule(work: &mut [u32], scope: &Scope, top: u32, band: Band, rule: Rule)
     ensures { λ r. ⌜ Always (now (scope .entry)) rule (ShutRule (now (scope .entry)) top (band .low) (band .high) rule) (now (work .entry)) (now (work .exit)) r ⌝ }
 {
     match rule {
-        Rule::Lead { rest, .. } => sweep_part(work, scope, top, band, rule, rest),
+        Rule::Lead { head, action, rest } => sweep_lead(work, scope, top, band, head, action, rest),
         Rule::Same { body, .. } => sweep_part(work, scope, top, band, rule, body),
         Rule::Pair { left, right, .. } => {
             let first = sweep_part(work, scope, top, band, rule, left);

@@ -1,5 +1,6 @@
 -- The nearest state of the goal, and what it says of all good paths.
 use mathlib.Core.Path.{_≡_, refl, sym, subst, ap, _∙_}
+use mathlib.Core.Bool.{Bool, true, false}
 use mathlib.Core.List.{List, [], _∷_}
 use Prim.Native.Nat.{ℕ, _+_, _-_, _*_, _<_, _≤_}
 use native.Mathlib.Omega.{arith}
@@ -21,6 +22,7 @@ use Rattle.logic.specs.Paths.{edge, Chain, Before, Good, end, word}
 use Rattle.logic.specs.Facts.{Ground, ground, Guarded}
 use Rattle.least.specs.declared.scope.Scope.{Scope}
 use Rattle.least.specs.Entries.{groundOf, place, entryOf, In, Known, AtMost, Sound, Closed}
+use Rattle.least.specs.Lowering.{Run, weight}
 use Rattle.least.proofs.Walking.{guarded-end, edge-inside}
 use Rattle.least.proofs.Least.{least}
 use Rattle.least.proofs.Turns.{place-in}
@@ -127,3 +129,8 @@ fitting c m guard rules k long e is l within pos =
       in-rules = subst (λ n. RulesWithin n rules) (sym is) within;
       some = omega arith;
     }
+
+-- a run never makes the table heavier
+pub lighter : (c : Scope) (rules : List Rule) (Shut : List ℕ → Type 0) (a b : List ℕ) (x : Bool) → Run c rules Shut a b x → weight b ≤ weight a
+lighter c rules Shut a b true j = omega (arith, j .less refl)
+lighter c rules Shut a b false j = omega (arith, ap weight (j .still refl .0))

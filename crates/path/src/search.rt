@@ -1,4 +1,5 @@
 // The search for a shortest path into the goal.
+ghost use mathlib.Core.Bool.{true};
 ghost use mathlib.Core.Path.{_≡_};
 ghost use Prim.Native.Nat.{ℕ, _+_, _*_, _<_, _≤_, min};
 ghost use lib.ListN.{length, getD};
@@ -7,6 +8,7 @@ ghost use Rattle.model.specs.Relations.{Exactly};
 ghost use Rattle.model.specs.Sets.{Has};
 ghost use Rattle.language.specs.Rules.{RulesWithin};
 ghost use Rattle.least.specs.Entries.{Room, Sound, Closed};
+ghost use Rattle.least.specs.Lowering.{weight};
 ghost use Rattle.path.specs.Witnesses.{SomeGoodFor, Shows, Nearest, Far, Best};
 use crate::unfolding::unfold;
 use crate::witness::Witness;
@@ -80,6 +82,51 @@ fn next_level(work: &[u32], top: u32, level: u32) -> u32
     next
 }
 
+// How many entries are at the level.
+fn count_at(work: &[u32], level: u32) -> usize
+    ensures { λ r. ⌜ r ≤ length (now (work .entry)) ⌝ }
+{
+    let mut count = 0;
+    for known in work {
+        if *known == level {
+            count += 1;
+        }
+    }
+    count
+}
+
+// Lowers by all rules with the facts whose entry is the level; says whether there are more of those then.
+// Where they are many, sweeping all lower facts as first parts is quicker than taking up each as a second part.
+fn sweep_level<L: UntilLanguage>(
+    work: &mut [u32],
+    language: &L,
+    scope: &Scope,
+    top: u32,
+    level: u32,
+) -> bool
+    requires { ⌜ Room (now scope) top (length (now work)) ⌝ ∗ ⌜ RulesWithin (now scope .symbols) (rules (now language)) ⌝ }
+    ensures sound { λ _. ⌜ (Sound (now (scope .entry)) (rules (now (language .entry))) (now (work .entry)) → Sound (now (scope .entry)) (rules (now (language .entry))) (now (work .exit))) ⌝ }
+    ensures lighter { λ _. ⌜ weight (now (work .exit)) ≤ weight (now (work .entry)) ⌝ }
+    ensures more { λ r. ⌜ (r ≡ true → weight (now (work .exit)) < weight (now (work .entry))) ⌝ }
+{
+    let before = count_at(work, level);
+    let band = if before > 512 {
+        Band {
+            low: 1,
+            high: level,
+            both: false,
+        }
+    } else {
+        Band {
+            low: level,
+            high: level,
+            both: true,
+        }
+    };
+    let fell = sweep(work, language, scope, top, band);
+    fell && count_at(work, level) > before
+}
+
 // Lowers in the order of the entries, up to the first level at which a state of the goal has an entry, or the top.
 fn grow<L: UntilLanguage>(
     work: &mut [u32],
@@ -99,17 +146,7 @@ fn grow<L: UntilLanguage>(
         if let Some(_) = nearest(work, scope, level, goal, state) {
             return level;
         }
-        if !sweep(
-            work,
-            language,
-            scope,
-            top,
-            Band {
-                low: level,
-                high: level,
-                both: true,
-            },
-        ) {
+        if !sweep_level(work, language, scope, top, level) {
             level = next_level(work, top, level);
         }
     }

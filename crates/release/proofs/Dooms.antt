@@ -24,14 +24,15 @@ use Rattle.pile.specs.Items.{items, room}
 use Rattle.walks.specs.Releases.{MarkedFrom, Forced, Bad}
 use Rattle.walks.proofs.Breaks.{doomed-breaks, breaks-not-keeps}
 use Rattle.walks.proofs.Walks.{seek, edge-inside, kept-outside}
-use Rattle.release.specs.declared.position.Position.{Position}
-use Rattle.release.specs.Pairs.{pair, Holds, InRow, size}
-use Rattle.release.specs.Searches.{On, Done, Sound, Roomy, Laid, Looked, Ready, BackBy, BadBelow, Begun}
+use Rattle.positions.specs.declared.position.Position.{Position}
+use Rattle.positions.specs.Pairs.{pair, Holds, InRow, size}
+use Rattle.positions.specs.Searches.{On, Done, Sound, Roomy, Laid, Looked, Ready, BackBy}
+use Rattle.release.specs.Beginnings.{BadBelow, Begun}
 use Rattle.release.specs.Releases.{Doomed, Released}
-use Rattle.release.proofs.Sizes.{holds-dec, has-dec}
-use Rattle.release.proofs.Marks.{pair-is}
-use Rattle.release.proofs.Leadings.{sure}
-use Rattle.release.proofs.Findings.{on-more, found-few, roomy-laid, sound-add}
+use Rattle.positions.proofs.Sizes.{holds-dec, has-dec}
+use Rattle.positions.proofs.Marks.{pair-is}
+use Rattle.positions.proofs.Leadings.{sure}
+use Rattle.positions.proofs.Findings.{on-more, found-few, roomy-laid, sound-add}
 
 -- the first pairs, one watcher state after another
 module _ (m : Model) (t : Table) (unkept : ℕ → Type 0) where

@@ -1,7 +1,1 @@
-pub mod Sizes
-pub mod Marks
-pub mod Drawings
-pub mod Findings
-pub mod Lookings
-pub mod Leadings
 pub mod Dooms

@@ -1,4 +1,2 @@
-pub mod Pairs
-pub mod Arrows
-pub mod Searches
+pub mod Beginnings
 pub mod Releases

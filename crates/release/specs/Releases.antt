@@ -9,7 +9,7 @@ use Rattle.language.specs.Words.{Word}
 use Rattle.language.specs.Tables.{Table}
 use Rattle.logic.specs.Maximal.{Maximal, BreaksAt, SomeKeeps}
 use Rattle.walks.specs.Releases.{MarkedFrom, Forced, Bad}
-use Rattle.release.specs.Pairs.{Holds}
+use Rattle.positions.specs.Pairs.{Holds}
 
 -- the rows have exactly the doomed pairs, and no other pair is bad or forced into them
 pub record Doomed (m : Model) (t : Table) (F K : ℕ → Type 0) (rows : List NumberSet) : Type 0 where

@@ -82,9 +82,9 @@ module _ (sheet : Sheet) (l : Told) (W : Word → Type 0) (work waiting : ℕ) (
 module _ (m : Model) (l : Told) (work waiting : ℕ) (before after : List Step) (guard goal s n : ℕ) (G : List Step → Type 0) (free : CausePath m l work waiting (length before) guard goal s None-good n None) where
   pub answered-none : ((p : List Step) × G p → ⊥) → after ≡ before → Answered m l work waiting before after guard goal s G n (Ok None)
   answered-none none same = record {
-      cause = path-pass m l work waiting (length before) guard goal s n free (inr (λ t. none (t .0), refl));
-      shows = (λ p g. none (p, g), same)
-    }
+    cause = path-pass m l work waiting (length before) guard goal s n free (inr (λ t. none (t .0), refl));
+    shows = (λ p g. none (p, g), same);
+  }
 
   pub answered-steps : (k : ℕ) → k ≤ limit (length before) → G (take k after) → ((p : List Step) → G p → k ≤ length p) → drop k after ≡ drop k before → length after ≡ length before → Answered m l work waiting before after guard goal s G n (Ok (Some k))
   answered-steps k fits good least later long = record {

@@ -27,7 +27,7 @@ pub struct Question {
 }
 
 impl Question {
-    pub fn new(form: Form, marks: NumberSet) -> Question
+    pub(crate) fn new(form: Form, marks: NumberSet) -> Question
         ensures { λ r. ⌜ r ≡ record { form = form; marks = marks } ⌝ }
     {
         Question { form, marks }

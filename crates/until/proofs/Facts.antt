@@ -167,15 +167,15 @@ module _ (g : Ground) (rules : List Rule) where
     λ w. elim (decided f) [ yes o ↦ j .keeps f o | no o ↦ j .puts f (new f .1 (w, λ y. o (is f .1 y))) ],
   )
 
-  -- what the rules find with a fresh part is all that is new in the height after
+  -- what a round adds is all that is new in the height after
   pub next-new : (h : ℕ) (F N G : Triple → Type 0) (M : Triple → Type 0) (D : Triple → Type 0) → Exactly F (FactWithin g rules h) → Joined F G N → Exactly G (FactWithin g rules (h + 1))
-      → Exactly M (ByRulesFresh g rules G N) → Exactly D (Lacking M G) → Exactly D (New (h + 1))
+      → Joined G M (ByRulesFresh g rules G N) → Exactly D (Lacking M G) → Exactly D (New (h + 1))
   next-new h F N G M D is j all found new f = (
-    λ d. let (m, o) = new f .0 d in let y = found f .0 m in
-        (up (height-more (h + 1) f .1 (y .0, y .1, gives-mono g (y .0) _ _ (λ q. all q .0) f (fresh-gives g (y .0) G N (j .puts) f (y .2)))), λ w. o (all f .1 w)),
+    λ d. let (m, o) = new f .0 d in
+        (up (⊎-elim (λ y. absurd (o y)) (λ y. height-more (h + 1) f .1 (y .0, y .1, gives-mono g (y .0) _ _ (λ q. all q .0) f (fresh-gives g (y .0) G N (j .puts) f (y .2)))) (found .only f m)), λ w. o (all f .1 w)),
     λ w. let d = height-more (h + 1) f .0 (down (w .0)) in
         new f .1 (
-          ⊎-elim (λ old. absurd (w .1 (plus (height-more h f .1 (d .0, d .1, gives-mono g (d .0) _ _ (λ q. is q .0) f old))))) (λ y. found f .1 (d .0, d .1, y))
+          ⊎-elim (λ old. absurd (w .1 (plus (height-more h f .1 (d .0, d .1, gives-mono g (d .0) _ _ (λ q. is q .0) f old))))) (λ y. found .puts f (d .0, d .1, y))
               (gives-split g (d .0) F G N (j .only) f (gives-mono g (d .0) _ _ (λ q. all q .1) f (d .2))),
           λ y. w .1 (all f .0 y),
         ),

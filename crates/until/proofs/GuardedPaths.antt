@@ -3,6 +3,7 @@ use mathlib.Core.Path.{_≡_, refl, sym, subst, ap, _∙_}
 use mathlib.Core.List.{List, [], _∷_, _++_}
 use Prim.Native.Nat.{ℕ, zero, suc, _<_, _≤_}
 use native.Mathlib.Omega.{arith}
+use lib.ListN.{length}
 use Rattle.model.specs.declared.edge.Edge.{Edge}
 use Rattle.model.specs.declared.edge.Step.{Step}
 use Rattle.model.specs.declared.model.Model.{Model}
@@ -25,6 +26,11 @@ edge-inside m e e∈ =
 pub word-append : (m : Model) (p q : List Step) → word m (p ++ q) ≡ word m p ++ word m q
 word-append m [] q = refl
 word-append m (x ∷ p) q = ap (λ w. x .action ∷ w) (word-append m p q)
+
+-- a path has as many steps as its word has actions
+pub word-length : (m : Model) (p : List Step) → length (word m p) ≡ length p
+word-length m [] = refl
+word-length m (x ∷ p) = ap suc (word-length m p)
 
 module _ (g : Ground) where
   pub guarded-start : (s t : ℕ) (p : List Step) → Guarded g s p t → s < g .model .states

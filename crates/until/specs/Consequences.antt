@@ -3,7 +3,6 @@ use mathlib.Core.Path.{_≡_}
 use mathlib.Core.List.{List}
 use mathlib.Core.Logic.{_⊎_}
 use Prim.Native.Nat.{ℕ, _<_}
-use lib.ListN.{getD}
 use Rattle.model.specs.declared.edge.Edge.{Edge}
 use Rattle.model.specs.Models.{HasEdge}
 use Rattle.model.specs.Relations.{Among}

@@ -9,4 +9,5 @@ mod rule_steps;
 
 pub use fact_table::FactTable;
 pub use filling::fill;
+pub use marking::reaching;
 pub use marking::satisfying;

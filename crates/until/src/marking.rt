@@ -26,8 +26,9 @@ fn reaching_from(table: &FactTable, goal: NumberSet, s: u8) -> NumberSet
     }
 }
 
-// The states below `states` from which symbol 0 has a fact to a state of the goal.
-fn reaching(table: &FactTable, goal: NumberSet, states: u8) -> NumberSet
+// The states below `states` from which symbol 0 has a fact to a state of the goal. Only crates of ours call this, with
+// the number of states of a model.
+pub fn reaching(table: &FactTable, goal: NumberSet, states: u8) -> NumberSet
     requires { ⌜ states ≤ 32 ⌝ }
     ensures { λ r. ⌜ Exactly (Has r) (λ s. (s < states) × (t : ℕ) × Holds (now (table .entry) .rows) (0, s, t) × Has goal t) ⌝ }
 {

@@ -1,6 +1,6 @@
 // What all the rules of a language find in one round.
 ghost use Prim.Native.Nat.{_≤_};
-ghost use Rattle.model.specs.Relations.{Exactly};
+ghost use Rattle.model.specs.Relations.{Exactly, Joined};
 ghost use Rattle.language.specs.Rules.{RulesWithin};
 ghost use Rattle.logic.specs.Facts.{Triple, ground};
 ghost use Rattle.until.specs.FactTables.{Holds};
@@ -31,7 +31,7 @@ pub(crate) fn first_facts<L: UntilLanguage>(
     found
 }
 
-// The facts of a later round: what the rules give with a fresh fact among their parts.
+// All facts after one round more: with what the rules give that have a fresh fact among their parts.
 pub(crate) fn further_facts<L: UntilLanguage>(
     language: &L,
     model: &Model,
@@ -42,12 +42,13 @@ pub(crate) fn further_facts<L: UntilLanguage>(
     requires rules { ⌜ RulesWithin 16 (L·UntilLanguage .rules (now language)) ⌝ }
     requires all { ⌜ FactsBelow 16 (now model .states) (Holds (now all .rows)) ⌝ }
     requires fresh { ⌜ FactsBelow 16 (now model .states) (Holds (now fresh .rows)) ⌝ }
-    ensures { λ r. ⌜ Exactly (Holds (r .rows)) (ByRulesFresh (ground (now (model .entry)) guard) (L·UntilLanguage .rules (now (language .entry))) (Holds (now (all .entry) .rows)) (Holds (now (fresh .entry) .rows))) ⌝ }
+    ensures { λ r. ⌜ Joined (Holds (now (all .entry) .rows)) (Holds (r .rows)) (ByRulesFresh (ground (now (model .entry)) guard) (L·UntilLanguage .rules (now (language .entry))) (Holds (now (all .entry) .rows)) (Holds (now (fresh .entry) .rows))) ⌝ }
 {
-    let mut found = FactTable::empty();
+    let live = fresh.symbols();
+    let mut found = *all;
     for place in 0..language.rule_count() {
         if let Some(rule) = language.rule(place) {
-            add_fresh(&mut found, all, fresh, model, guard, rule);
+            add_fresh(&mut found, all, fresh, live, model, guard, rule);
         }
     }
     found

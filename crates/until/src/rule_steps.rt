@@ -50,13 +50,16 @@ fn add_pair(
     left: u8,
     right: u8,
 )
-    requires { ⌜ head < 16 ⌝ ∗ ⌜ left < 16 ⌝ ∗ ⌜ right < 16 ⌝ ∗ ⌜ states ≤ 32 ⌝ ∗ ⌜ FactsBelow 16 states (Holds (now firsts .rows)) ⌝ }
+    requires few { ⌜ head < 16 ⌝ ∗ ⌜ left < 16 ⌝ ∗ ⌜ right < 16 ⌝ ∗ ⌜ states ≤ 32 ⌝ }
+    requires firsts { ⌜ FactsBelow 16 states (Holds (now firsts .rows)) ⌝ }
+    requires seconds { ⌜ FactsBelow 16 states (Holds (now seconds .rows)) ⌝ }
     ensures { λ _. ⌜ Joined (Holds (now (found .entry) .rows)) (Holds (now (found .exit) .rows)) (ByPair head left right (Holds (now (firsts .entry) .rows)) (Holds (now (seconds .entry) .rows))) ⌝ }
 {
     let starts = seconds.starts(right);
     for from in 0..states {
         let middle = common(firsts.row(left, from), starts);
-        found.add(head, from, seconds.through(middle, right));
+        let reached = seconds.through(found.row(head, from), middle, right, states);
+        found.add(head, from, reached);
     }
 }
 
@@ -91,10 +94,10 @@ fn add_led(
     }
 }
 
-// A rule with no symbol in its body; any other adds nothing.
+// A rule with no symbol in its body; any other adds nothing. A letter rule has no rest, so `rests` may be any table.
 pub(crate) fn add_alone(
     found: &mut FactTable,
-    none: &FactTable,
+    rests: &FactTable,
     model: &Model,
     guard: NumberSet,
     rule: Rule,
@@ -104,33 +107,49 @@ pub(crate) fn add_alone(
 {
     match rule {
         Rule::Empty { head } => add_empty(found, model.states(), head),
-        Rule::Letter { head, .. } => add_led(found, none, model, guard, rule, head),
+        Rule::Letter { head, .. } => add_led(found, rests, model, guard, rule, head),
         Rule::Lead { .. } => {}
         Rule::Same { .. } => {}
         Rule::Pair { .. } => {}
     }
 }
 
-// A rule with a fresh fact among its parts.
+// A rule with a fresh fact among its parts; only the symbols of `live` have one.
 pub(crate) fn add_fresh(
     found: &mut FactTable,
     all: &FactTable,
     fresh: &FactTable,
+    live: NumberSet,
     model: &Model,
     guard: NumberSet,
     rule: Rule,
 )
-    requires { ⌜ SymbolsBelow 16 rule ⌝ ∗ ⌜ FactsBelow 16 (now model .states) (Holds (now all .rows)) ⌝ ∗ ⌜ FactsBelow 16 (now model .states) (Holds (now fresh .rows)) ⌝ }
+    requires rule { ⌜ SymbolsBelow 16 rule ⌝ }
+    requires all { ⌜ FactsBelow 16 (now model .states) (Holds (now all .rows)) ⌝ }
+    requires fresh { ⌜ FactsBelow 16 (now model .states) (Holds (now fresh .rows)) ⌝ }
+    requires live { ⌜ ((f : Triple) → Holds (now fresh .rows) f → Has live (f .0)) ⌝ }
     ensures { λ _. ⌜ Joined (Holds (now (found .entry) .rows)) (Holds (now (found .exit) .rows)) (GivesFresh (ground (now (model .entry)) guard) rule (Holds (now (all .entry) .rows)) (Holds (now (fresh .entry) .rows))) ⌝ }
 {
     match rule {
         Rule::Empty { .. } => {}
         Rule::Letter { .. } => {}
-        Rule::Lead { head, .. } => add_led(found, fresh, model, guard, rule, head),
-        Rule::Same { head, body } => add_same(found, fresh, model.states(), head, body),
+        Rule::Lead { head, rest, .. } => {
+            if live.has(rest) {
+                add_led(found, fresh, model, guard, rule, head);
+            }
+        }
+        Rule::Same { head, body } => {
+            if live.has(body) {
+                add_same(found, fresh, model.states(), head, body);
+            }
+        }
         Rule::Pair { head, left, right } => {
-            add_pair(found, fresh, all, model.states(), head, left, right);
-            add_pair(found, all, fresh, model.states(), head, left, right);
+            if live.has(left) {
+                add_pair(found, fresh, all, model.states(), head, left, right);
+            }
+            if live.has(right) {
+                add_pair(found, all, fresh, model.states(), head, left, right);
+            }
         }
     }
 }

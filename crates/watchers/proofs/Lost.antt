@@ -1,16 +1,15 @@
 -- A word with an action that the table does not know is lost.
 use mathlib.Core.Path.{_≡_, refl, sym, ap, subst, _∙_}
-use mathlib.Core.Bool.{true, false}
-use mathlib.Core.List.{List, [], _∷_}
+use mathlib.Core.Bool.{true}
+use mathlib.Core.List.{[], _∷_}
 use mathlib.Core.Logic.{inl, inr}
-use Prim.Native.Nat.{ℕ, _<_, _≤_}
+use Prim.Native.Nat.{ℕ}
 use native.Mathlib.Omega.{arith}
 use borrow.Author.Tests.{clash}
 use Rattle.std.specs.Options.{valueOr}
-use Rattle.std.specs.declared.option.Option.the-variants.{Some, None}
 use Rattle.std.proofs.shelf.Tests.{cases-lt}
 use Rattle.language.specs.Words.{Word, Known}
-use Rattle.language.specs.Tables.{Table, step, run, Accepts, Complete}
+use Rattle.language.specs.Tables.{Table, step, run, Complete}
 
 module _ (n : ℕ) (t : Table) (whole : Complete n t) where
   -- no way back from beyond the table

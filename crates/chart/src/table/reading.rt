@@ -1,7 +1,6 @@
 // What a chart has, and how a row grows.
 ghost use mathlib.Core.Path.{_≡_};
-ghost use mathlib.Core.Logic.{_≢_};
-ghost use Prim.Native.Nat.{ℕ, _+_, _*_, _<_};
+ghost use Prim.Native.Nat.{_+_, _*_, _<_};
 ghost use lib.ListN.{getD};
 ghost use Rattle.std.specs.Orderings.{When};
 ghost use Rattle.model.specs.Relations.{Joined, Exactly};

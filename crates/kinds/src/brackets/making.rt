@@ -10,7 +10,7 @@ use crate::brackets::Brackets;
 use model::Refusal;
 
 impl Brackets {
-    // Brackets by two actions.
+    // Brackets by two actions; with no action at all, up is already too large.
     pub fn new(up: u8, down: u8, actions: u8) -> Result<Brackets, Refusal>
         ensures cause { λ r. ⌜ CauseBrackets up down actions (refusal r) ⌝ }
         ensures made { λ r. ⌜ Cases r (BracketsMade up down actions) (λ _. Unit {0}) ⌝ }
@@ -18,7 +18,7 @@ impl Brackets {
         if up >= actions || down >= actions {
             return Err(Refusal::NoSuchAction);
         }
-        if actions < 1 || actions > 16 {
+        if actions > 16 {
             return Err(Refusal::OutOfRange);
         }
         if up == down {

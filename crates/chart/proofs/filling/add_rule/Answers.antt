@@ -1,5 +1,4 @@
-use mathlib.Core.Path.{_≡_, refl, sym, subst, _∙_}
-use Prim.Native.Nat.{ℕ, _<_, _≤_}
+use mathlib.Core.Path.{refl, sym, subst, _∙_}
 use native.Mathlib.Omega.{arith}
 use Rattle.model.proofs.Joins.{joined-none, joined-more, joined-like}
 use Rattle.chart.specs.Charts.{Triple, Holds, Gives}

@@ -1,5 +1,3 @@
-use mathlib.Core.Path.{_≡_}
-use Prim.Native.Nat.{ℕ, _<_}
 use Rattle.model.specs.Relations.{Joined, Upto}
 use Rattle.language.specs.Rules.{headOf}
 use Rattle.chart.specs.Charts.{Triple, Holds, Gives, InRow}

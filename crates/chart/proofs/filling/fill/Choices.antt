@@ -1,6 +1,6 @@
 use mathlib.Core.Path.{_≡_}
-use mathlib.Core.Bool.{true, false, cond}
-use Prim.Native.Nat.{ℕ, _+_}
+use mathlib.Core.Bool.{false, cond}
+use Prim.Native.Nat.{_+_}
 use Rattle.chart.specs.Charts.{Triple, Holds, Stretch, ByRules}
 use Rattle.chart.proofs.Rooms.{room}
 use Rattle.chart.proofs.filling.fill.Given as given

@@ -1,9 +1,7 @@
-use mathlib.Core.Path.{_≡_, refl, sym, subst, _∙_, ap}
-use Prim.Native.Nat.{ℕ, _+_, _*_, _<_}
+use mathlib.Core.Path.{sym, subst}
 use native.Mathlib.Omega.{arith}
-use lib.ListN.{getD}
 use Rattle.model.specs.Relations.{Exactly}
-use Rattle.model.specs.Sets.{Has, Bit, nothing}
+use Rattle.model.specs.Sets.{Has}
 use Rattle.model.proofs.Joins.{place-before}
 use Rattle.language.specs.Rules.{SymbolsBelow}
 use Rattle.language.specs.declared.rule.Rule.{Rule}

@@ -1,4 +1,4 @@
-use mathlib.Core.Path.{_≡_, refl, sym, subst, _∙_}
+use mathlib.Core.Path.{sym, _∙_}
 use native.Mathlib.Omega.{arith}
 use Rattle.model.proofs.Joins.{joined-none, joined-more, joined-same, joined-from, among-more}
 use Rattle.chart.specs.declared.table.Chart.{Chart}

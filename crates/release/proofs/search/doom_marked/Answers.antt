@@ -4,9 +4,10 @@ use Prim.Native.Nat.{ℕ, _<_, _≤_, _+_}
 use native.Mathlib.Omega.{arith}
 use Rattle.model.specs.Sets.{Has}
 use Rattle.pile.specs.declared.base.Pile.{Pile}
-use Rattle.release.specs.declared.position.Position.{Position}
-use Rattle.release.specs.declared.positions.Positions.{Positions}
-use Rattle.release.specs.Searches.{Begun, Roomy}
+use Rattle.positions.specs.declared.position.Position.{Position}
+use Rattle.positions.specs.declared.positions.Positions.{Positions}
+use Rattle.positions.specs.Searches.{Roomy}
+use Rattle.release.specs.Beginnings.{Begun}
 use Rattle.release.proofs.Dooms.{begun-not, begun-here}
 use Rattle.release.proofs.search.doom_marked.Needs as need
 use Rattle.release.proofs.search.doom_marked.Needs.{then-is-marked, else-is-marked}

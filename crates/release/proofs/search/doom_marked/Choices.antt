@@ -1,6 +1,6 @@
 use mathlib.Core.Path.{_≡_}
 use Rattle.model.specs.Sets.{Has}
-use Rattle.release.specs.Searches.{Begun}
+use Rattle.release.specs.Beginnings.{Begun}
 use Rattle.release.proofs.search.doom_marked.Given as given
 
 abbrev pub Inv-loop-watch : given.InvT-loop-watch

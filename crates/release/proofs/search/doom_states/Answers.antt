@@ -5,8 +5,8 @@ use native.Mathlib.Omega.{arith}
 use Rattle.model.specs.declared.number_set.NumberSet.{NumberSet}
 use Rattle.model.specs.Sets.{Has}
 use Rattle.model.proofs.Bits.{bit-none}
-use Rattle.release.specs.Pairs.{Holds}
-use Rattle.release.proofs.Findings.{laid-none, laid-like, taken-more, room-new, roomy-laid}
+use Rattle.positions.specs.Pairs.{Holds}
+use Rattle.positions.proofs.Findings.{laid-none, laid-like, taken-more, room-new, roomy-laid}
 use Rattle.release.proofs.search.doom_states.Needs as need
 
 pub loop-state-holds : need.loop-state-holds

@@ -1,8 +1,8 @@
 use mathlib.Core.Path.{_≡_}
 use Prim.Native.Nat.{ℕ}
 use Rattle.model.specs.Sets.{Has}
-use Rattle.release.specs.Searches.{Laid}
-use Rattle.release.proofs.Findings.{Taken}
+use Rattle.positions.specs.Searches.{Laid}
+use Rattle.positions.proofs.Findings.{Taken}
 use Rattle.release.proofs.search.doom_states.Given as given
 
 abbrev pub Inv-loop-state : given.InvT-loop-state

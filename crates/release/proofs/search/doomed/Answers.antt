@@ -3,7 +3,7 @@ use Prim.Native.Nat.{ℕ, _<_, _≤_, _*_, _+_}
 use native.Mathlib.Omega.{arith}
 use Rattle.model.specs.Relations.{Exactly}
 use Rattle.model.specs.Sets.{Has}
-use Rattle.release.proofs.Leadings.{noted-none}
+use Rattle.positions.proofs.Leadings.{noted-none}
 use Rattle.release.proofs.Dooms.{begun-none, ready-start, roomy-pop, top-inside, ready-looked, turn-less, ready-end, sound-bad, doomed-all, states-without}
 use Rattle.release.proofs.search.doomed.Needs as need
 

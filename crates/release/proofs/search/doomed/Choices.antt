@@ -4,8 +4,8 @@ use lib.ListN.{length}
 use Rattle.model.specs.declared.number_set.NumberSet.{NumberSet}
 use Rattle.model.specs.Sets.{Has}
 use Rattle.pile.specs.Items.{items}
-use Rattle.release.specs.Pairs.{Holds, size}
-use Rattle.release.specs.Searches.{Ready, Roomy, Noted, Sound}
+use Rattle.positions.specs.Pairs.{Holds, size}
+use Rattle.positions.specs.Searches.{Ready, Roomy, Noted, Sound}
 use Rattle.release.proofs.search.doomed.Given as given
 
 abbrev pub Inv-search : given.InvT-search

@@ -7,7 +7,7 @@ use Rattle.model.specs.declared.number_set.NumberSet.{NumberSet}
 use Rattle.model.specs.Relations.{Exactly}
 use Rattle.model.specs.Sets.{Has, nothing}
 use Rattle.language.specs.Tables.{Accepts}
-use Rattle.release.specs.Pairs.{Holds}
+use Rattle.positions.specs.Pairs.{Holds}
 use Rattle.release.proofs.Dooms.{released, released-words, states-without}
 use Rattle.release.proofs.search.keeping.Needs as need
 

@@ -91,7 +91,7 @@ returns-then-grown-size g c =
     let all = Holds (c .include .last .self .rows) in
     let inv = c .loop-size .inv in
     let next = height-joined G R h F N all (holds-dec _) (inv .1) (inv .2) (c .include .ensures) in
-    let same = table-same _ _ (c .include .last .self .long) (c .include .ensures .keeps) (sym (c .count-grown .ensures .size) ∙ c .if-grown-size .taken ∙ inv .0) in
+    let same = table-same _ _ (c .include .last .self .long) (c .include .ensures .keeps) (omega (arith, c .count-grown .ensures .size, c .if-grown-size .taken, inv .0)) in
     let facts = settled-all G R h F all (inv .1) next same (c .include .ensures .keeps) in
     let e = cells _ _ _ _ (c .symbol-count-symbols .ensures) (c .states-states .ensures) in
     record {

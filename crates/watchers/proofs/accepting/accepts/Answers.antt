@@ -1,15 +1,14 @@
 use mathlib.Core.Path.{_≡_, refl, sym, ap, subst, _∙_}
 use mathlib.Core.Bool.{true, false}
-use mathlib.Core.List.{_∷_}
-use mathlib.Core.Logic.{inl, inr}
-use Prim.Native.Nat.{_≤_, _<_, _+_}
+use mathlib.Core.Logic.{inr}
+use Prim.Native.Nat.{_≤_, _+_}
 use native.Mathlib.Omega.{arith}
 use borrow.Author.Tests.{clash}
 use lib.ListN.{drop, getD}
 use Rattle.std.specs.Options.{valueOr}
 use Rattle.std.proofs.shelf.Lists.{at-drop-more, at-drop-all}
-use Rattle.language.specs.Tables.{run, step, Accepts}
-use Rattle.watchers.proofs.Lost.{lost-unmarked}
+use Rattle.language.specs.Tables.{run, step}
+use Rattle.watchers.proofs.Lost.{lost-unmarked, marked-known}
 use Rattle.watchers.proofs.accepting.accepts.Needs as need
 
 pub loop-action-holds : need.loop-action-holds
@@ -37,6 +36,7 @@ returns-in-None g c =
     record {
       cause = inr ((λ large. omega arith), refl);
       right = (λ never. absurd (clash never), λ m. absurd (lost-unmarked (g .W·Alphabet .known l) t (g .W·Watcher·met .complete l few) (drop (i + 1) w) (subst (λ q. t .marked q ≡ true) lost (g .W·Watcher·met .accepted l w few m))));
+      known = λ is. let never : false ≡ true = cc in absurd (clash never);
     }
 
 pub returns : need.returns
@@ -50,4 +50,5 @@ returns g c =
     record {
       cause = inr ((λ large. omega arith), refl);
       right = (λ is. g .W·Watcher·met .«only_accepted» l w few (same ∙ is), λ m. sym same ∙ g .W·Watcher·met .accepted l w few m);
+      known = λ is. let yes-it-is : c .is-marked .result ≡ true = cc in marked-known (g .W·Alphabet .known l) t (g .W·Watcher·met .complete l few) (t .start) w (same ∙ yes-it-is);
     }

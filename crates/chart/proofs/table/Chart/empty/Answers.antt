@@ -1,5 +1,5 @@
-use mathlib.Core.Path.{_≡_, sym, subst, _∙_, ap}
-use Prim.Native.Nat.{ℕ, _*_, _+_}
+use mathlib.Core.Path.{_≡_, sym, subst}
+use Prim.Native.Nat.{_*_, _+_}
 use lib.ListN.{getD, replicate}
 use Rattle.model.specs.Sets.{Has, nothing}
 use Rattle.model.proofs.Bits.{bit-none}

@@ -1,8 +1,7 @@
-use mathlib.Core.Path.{_≡_, sym, ap, _∙_}
-use Prim.Native.Nat.{ℕ, _<_}
+use mathlib.Core.Path.{sym, ap, _∙_}
+use Prim.Native.Nat.{ℕ}
 use native.Mathlib.Omega.{arith}
 use borrow.Author.Count.{below-more}
-use lib.ListN.{length}
 use Rattle.std.proofs.shelf.Lists.{ext-getD}
 use Rattle.model.specs.Sets.{nothing}
 use Rattle.model.specs.declared.number_set.NumberSet.{NumberSet}

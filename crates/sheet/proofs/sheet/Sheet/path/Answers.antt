@@ -22,7 +22,7 @@ shortest-requires g c κs =
     record {
       sizes = (may .symbols, (may .rules, may .state));
       lent = (omega (arith, c .satisfying-some .kept .work, may .room), may .memory);
-      marks = c .satisfying-some .ensures .derived
+      marks = c .satisfying-some .ensures .derived;
     }
 
 pub returns-in-Nothing : need.returns-in-Nothing
@@ -35,8 +35,8 @@ returns-in-Nothing g c =
     let shown = c .in-Nothing .ensures tt in
     record {
       answer = witnessed-none _ tells _ _ _ _ _ _ _ _ _ _ (c .marks-holds .ensures ∙ ap (λ y. y .marks) (c .get .ensures)) (c .marks-reached .ensures ∙ ap (λ y. y .marks) (c .get-2 .ensures)) free
-        (λ w. laws .derived language w (may .symbols) (may .rules)) (λ w. laws .«only_derived» language w (may .symbols) (may .rules)) (shown .0) (shown .1);
-      scratch = tt
+          (λ w. laws .derived language w (may .symbols) (may .rules)) (λ w. laws .«only_derived» language w (may .symbols) (may .rules)) (shown .0) (shown .1);
+      scratch = tt;
     }
 
 pub returns-in-Steps : need.returns-in-Steps
@@ -49,8 +49,8 @@ returns-in-Steps g c =
     let shown = c .in-Steps .ensures tt in
     record {
       answer = witnessed-steps _ tells _ _ _ _ _ _ _ _ _ _ (c .marks-holds .ensures ∙ ap (λ y. y .marks) (c .get .ensures)) (c .marks-reached .ensures ∙ ap (λ y. y .marks) (c .get-2 .ensures)) free
-        (λ w. laws .derived language w (may .symbols) (may .rules)) (λ w. laws .«only_derived» language w (may .symbols) (may .rules)) (c .in-Steps .n) (shown .0) (shown .1) (shown .2) (shown .3) (shown .4);
-      scratch = tt
+          (λ w. laws .derived language w (may .symbols) (may .rules)) (λ w. laws .«only_derived» language w (may .symbols) (may .rules)) (c .in-Steps .n) (shown .0) (shown .1) (shown .2) (shown .3) (shown .4);
+      scratch = tt;
     }
 
 pub returns-in-TooLong : need.returns-in-TooLong
@@ -63,6 +63,6 @@ returns-in-TooLong g c =
     let shown = c .in-TooLong .ensures tt in
     record {
       answer = witnessed-long _ tells _ _ _ _ _ _ _ _ _ _ (c .marks-holds .ensures ∙ ap (λ y. y .marks) (c .get .ensures)) (c .marks-reached .ensures ∙ ap (λ y. y .marks) (c .get-2 .ensures)) free
-        (λ w. laws .derived language w (may .symbols) (may .rules)) (λ w. laws .«only_derived» language w (may .symbols) (may .rules)) (shown .0) (shown .1) (shown .2);
-      scratch = λ e. absurd (e refl)
+          (λ w. laws .derived language w (may .symbols) (may .rules)) (λ w. laws .«only_derived» language w (may .symbols) (may .rules)) (shown .0) (shown .1) (shown .2);
+      scratch = λ e. absurd (e refl);
     }

@@ -1,6 +1,6 @@
-use mathlib.Core.Path.{_≡_, refl, sym, subst}
+use mathlib.Core.Path.{refl, sym, subst}
 use mathlib.Core.Bool.{false}
-use Prim.Native.Nat.{ℕ, _<_, _+_, _*_}
+use Prim.Native.Nat.{_<_, _+_, _*_}
 use native.Mathlib.Omega.{arith}
 use Rattle.model.proofs.Tables.{getD-copies}
 use Rattle.watchers.proofs.table_watcher.TableWatcher.plain.Needs as need

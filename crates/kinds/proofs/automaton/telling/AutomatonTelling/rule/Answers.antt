@@ -1,4 +1,4 @@
-use mathlib.Core.Path.{_≡_, sym, _∙_}
+use mathlib.Core.Path.{sym, _∙_}
 use Rattle.kinds.proofs.Told.{told-edge, told-final, told-none}
 use Rattle.kinds.proofs.automaton.telling.AutomatonTelling.rule.Needs as need
 

@@ -1,8 +1,4 @@
-use mathlib.Core.Path.{_≡_, sym, ap, _∙_}
-use Prim.Native.Nat.{_+_, _≤_}
 use native.Mathlib.Omega.{arith}
-use lib.ListN.{length}
-use Rattle.kinds.specs.Automata.{told, finalsOf}
 use Rattle.kinds.proofs.Told.{told-length, finals-few}
 use Rattle.kinds.proofs.automaton.telling.AutomatonTelling.rule_count.Needs as need
 

@@ -1,7 +1,6 @@
-use mathlib.Core.Path.{_≡_, ap, _∙_}
+use mathlib.Core.Path.{ap}
 use native.Mathlib.Omega.{arith}
 use lib.ListN.{length}
-use Rattle.kinds.specs.BracketWords.{othersOf}
 use Rattle.kinds.proofs.Nesting.{others-marked, others-few, told-length}
 use Rattle.kinds.proofs.brackets.telling.BracketsTelling.rule_count.Needs as need
 

@@ -1,16 +1,15 @@
-use mathlib.Core.Path.{_≡_, refl, sym, subst, ap, _∙_}
-use mathlib.Core.Bool.{true, false, cond, _&&_}
-use mathlib.Core.List.{List, [], _∷_}
-use Prim.Native.Nat.{ℕ, suc, _<_, _≤_, _+_, _%_}
+use mathlib.Core.Path.{_≡_, sym, ap, _∙_}
+use mathlib.Core.List.{[], _∷_}
+use Prim.Native.Nat.{ℕ, suc, _<_, _+_, _%_}
 use native.Mathlib.Omega.{arith}
 use native.Mathlib.Nat.{mod-lt, mod-eq-of-lt, mod-add-mod}
-use lib.Dec.{ltb, eqb}
+use lib.Dec.{ltb}
 use lib.ListN.{length}
 use Rattle.std.specs.Options.{valueOr}
-use Rattle.std.specs.declared.option.Option.the-variants.{Some, None}
+use Rattle.std.specs.declared.option.Option.the-variants.{Some}
 use Rattle.std.proofs.shelf.Tests.{lt-ltb, le-ltb, and-from, and-left, and-right, cond-true, cond-false, eqb-true, eq-eqb, ne-eqb}
 use Rattle.language.specs.Words.{Word, Known}
-use Rattle.language.specs.Tables.{Table, run, step, Complete}
+use Rattle.language.specs.Tables.{run, step, Complete}
 use Rattle.watchers.specs.declared.step_watcher.StepWatcher.{StepWatcher}
 use Rattle.watchers.specs.Steps.{stepTable}
 use Rattle.watchers.proofs.Lost.{marked-known}

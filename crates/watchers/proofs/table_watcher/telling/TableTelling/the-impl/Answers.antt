@@ -1,15 +1,14 @@
 use mathlib.Core.Path.{_≡_, refl, sym, subst, ap, _∙_}
-use mathlib.Core.Bool.{true, false, cond, _&&_}
-use mathlib.Core.List.{List, [], _∷_}
-use Prim.Native.Nat.{ℕ, _<_, _≤_, _+_, _*_}
+use mathlib.Core.Bool.{true, _&&_}
+use mathlib.Core.List.{[], _∷_}
+use Prim.Native.Nat.{ℕ, _<_, _+_, _*_}
 use native.Mathlib.Omega.{arith}
 use lib.Dec.{ltb}
-use lib.ListN.{getD}
 use Rattle.std.specs.Options.{valueOr}
-use Rattle.std.specs.declared.option.Option.the-variants.{Some, None}
+use Rattle.std.specs.declared.option.Option.the-variants.{Some}
 use Rattle.std.proofs.shelf.Tests.{lt-ltb, le-ltb, and-from, and-left, and-right, and-parts, cond-true, cond-false}
 use Rattle.language.specs.Words.{Word, Known}
-use Rattle.language.specs.Tables.{Table, run, step, Complete}
+use Rattle.language.specs.Tables.{run, step, Complete}
 use Rattle.watchers.specs.declared.table_watcher.TableWatcher.{TableWatcher}
 use Rattle.watchers.specs.TableWatchers.{nextOf, markOf, reached, storedTable}
 use Rattle.watchers.proofs.Lost.{marked-known}
