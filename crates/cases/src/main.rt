@@ -2,6 +2,7 @@
 mod asking;
 mod drafts;
 mod languages;
+mod memory;
 mod paths;
 mod releases;
 mod report;

@@ -10,9 +10,14 @@ use crate::languages::circles;
 use crate::languages::crowded;
 use crate::languages::doubling;
 use crate::languages::empty_circles;
-use crate::report::Answer;
+use crate::memory::leading;
+use crate::memory::sevens;
+use crate::memory::step_list;
+use crate::memory::table;
+use crate::memory::untouched;
+use crate::memory::unused;
+use crate::memory::waiting;
 use crate::report::Report;
-use crate::report::count;
 use crate::report::made;
 use crate::workshop::basics;
 use crate::workshop::dense;
@@ -21,53 +26,8 @@ use crate::workshop::workshop;
 use kinds::Brackets;
 use kinds::BracketsTelling;
 use kinds::GrammarTelling;
-use model::Step;
-use sheet::Fact;
 use sheet::Sheet;
 use std::error::AnyError;
-
-const FACT: Fact = Fact {
-    symbol: 99,
-    from: 99,
-    to: 99,
-};
-
-const STEP: Step = Step {
-    action: 99,
-    state: 99,
-};
-
-// How many steps at the front have the action.
-fn leading(steps: &[Step], action: u8) -> Answer {
-    for (place, step) in steps.iter().enumerate() {
-        if step.action != action {
-            return count(place);
-        }
-    }
-    count(steps.len())
-}
-
-// How many entries of the step list are as they were lent.
-fn untouched(steps: &[Step]) -> Answer {
-    let mut kept = 0u32;
-    for step in steps {
-        if step.action == 99 && step.state == 99 {
-            kept = kept.saturating_add(1);
-        }
-    }
-    Answer::Number(kept)
-}
-
-// How many entries of the waiting memory are as they were lent.
-fn unused(waiting: &[Fact]) -> Answer {
-    let mut kept = 0u32;
-    for fact in waiting {
-        if fact.symbol == 99 && fact.from == 99 && fact.to == 99 {
-            kept = kept.saturating_add(1);
-        }
-    }
-    Answer::Number(kept)
-}
 
 pub fn counted(report: &mut Report) -> Result<(), AnyError> {
     report.heading("paths to proposition 0 by as many actions 1 as 0 before")?;
@@ -76,9 +36,9 @@ pub fn counted(report: &mut Report) -> Result<(), AnyError> {
     let mut sheet = Sheet::open(&model);
     made(basics(&mut sheet))?;
     let question = Parts { guard: 2, goal: 0 };
-    let mut work = [7u32; 48];
-    let mut waiting = [FACT; 12];
-    let mut steps = [STEP; 12];
+    let mut work = table(report.heap(), 48)?;
+    let mut pending = waiting(report.heap(), 12)?;
+    let mut steps = step_list(report.heap(), 12)?;
     report.none(
         "from 2",
         path(
@@ -87,7 +47,7 @@ pub fn counted(report: &mut Report) -> Result<(), AnyError> {
             &both,
             2,
             &mut work,
-            &mut waiting,
+            &mut pending,
             &mut steps,
         ),
     )?;
@@ -100,7 +60,7 @@ pub fn counted(report: &mut Report) -> Result<(), AnyError> {
             &both,
             1,
             &mut work,
-            &mut waiting,
+            &mut pending,
             &mut steps,
         ),
         6,
@@ -114,14 +74,14 @@ pub fn counted(report: &mut Report) -> Result<(), AnyError> {
             &both,
             0,
             &mut work,
-            &mut waiting,
+            &mut pending,
             &mut steps,
         ),
         12,
     )?;
-    report.number("steps of action 0", leading(&steps, 0), 6)?;
-    report.number("then steps of action 1", leading(&steps[6..], 1), 6)?;
-    let mut short = [STEP; 11];
+    report.number("steps of action 0", leading(&steps, 0, 0), 6)?;
+    report.number("then steps of action 1", leading(&steps, 6, 1), 6)?;
+    let mut short = step_list(report.heap(), 11)?;
     report.refused(
         "from 0, 11 places",
         path(
@@ -130,7 +90,7 @@ pub fn counted(report: &mut Report) -> Result<(), AnyError> {
             &both,
             0,
             &mut work,
-            &mut waiting,
+            &mut pending,
             &mut short,
         ),
         24,
@@ -147,9 +107,9 @@ pub fn circling(report: &mut Report) -> Result<(), AnyError> {
     let still = made(empty_circles())?;
     let mut sheet = Sheet::open(&model);
     made(basics(&mut sheet))?;
-    let mut work = [7u32; 64];
-    let mut waiting = [FACT; 12];
-    let mut steps = [STEP; 12];
+    let mut work = table(report.heap(), 64)?;
+    let mut pending = waiting(report.heap(), 12)?;
+    let mut steps = step_list(report.heap(), 12)?;
     let marked = Parts { guard: 2, goal: 4 };
     let other = Parts { guard: 2, goal: 1 };
     report.number(
@@ -160,7 +120,7 @@ pub fn circling(report: &mut Report) -> Result<(), AnyError> {
             &brackets,
             1,
             &mut work,
-            &mut waiting,
+            &mut pending,
             &mut steps,
         ),
         10,
@@ -173,14 +133,14 @@ pub fn circling(report: &mut Report) -> Result<(), AnyError> {
             &brackets,
             3,
             &mut work,
-            &mut waiting,
+            &mut pending,
             &mut steps,
         ),
         0,
     )?;
     report.number(
         "circles, from 1",
-        path(&sheet, other, &ring, 1, &mut work, &mut waiting, &mut steps),
+        path(&sheet, other, &ring, 1, &mut work, &mut pending, &mut steps),
         2,
     )?;
     report.number(
@@ -191,7 +151,7 @@ pub fn circling(report: &mut Report) -> Result<(), AnyError> {
             &ring,
             2,
             &mut work,
-            &mut waiting,
+            &mut pending,
             &mut steps,
         ),
         1,
@@ -204,7 +164,7 @@ pub fn circling(report: &mut Report) -> Result<(), AnyError> {
             &ring,
             0,
             &mut work,
-            &mut waiting,
+            &mut pending,
             &mut steps,
         ),
     )?;
@@ -216,7 +176,7 @@ pub fn circling(report: &mut Report) -> Result<(), AnyError> {
             &still,
             3,
             &mut work,
-            &mut waiting,
+            &mut pending,
             &mut steps,
         ),
         0,
@@ -229,7 +189,7 @@ pub fn circling(report: &mut Report) -> Result<(), AnyError> {
             &still,
             0,
             &mut work,
-            &mut waiting,
+            &mut pending,
             &mut steps,
         ),
     )?;
@@ -243,18 +203,34 @@ pub fn refused(report: &mut Report) -> Result<(), AnyError> {
     let three = made(Brackets::new(0, 1, 3))?;
     let sheet = Sheet::open(&model);
     let question = Parts { guard: 0, goal: 0 };
-    let mut table = [7u32; 48];
-    let mut waiting = [FACT; 2];
-    let mut steps = [STEP; 3];
-    let few = &mut table[0..47];
+    let mut few = table(report.heap(), 47)?;
+    let mut enough = table(report.heap(), 48)?;
+    let mut pending = waiting(report.heap(), 2)?;
+    let mut steps = step_list(report.heap(), 3)?;
     report.refused(
         "from state 4",
-        path(&sheet, question, &three, 4, few, &mut waiting, &mut steps),
+        path(
+            &sheet,
+            question,
+            &three,
+            4,
+            &mut few,
+            &mut pending,
+            &mut steps,
+        ),
         1,
     )?;
     report.refused(
         "three actions",
-        path(&sheet, question, &three, 3, few, &mut waiting, &mut steps),
+        path(
+            &sheet,
+            question,
+            &three,
+            3,
+            &mut few,
+            &mut pending,
+            &mut steps,
+        ),
         7,
     )?;
     report.refused(
@@ -264,15 +240,23 @@ pub fn refused(report: &mut Report) -> Result<(), AnyError> {
             question,
             &Seventeen,
             3,
-            few,
-            &mut waiting,
+            &mut few,
+            &mut pending,
             &mut steps,
         ),
         8,
     )?;
     report.refused(
         "47 entries",
-        path(&sheet, question, &both, 3, few, &mut waiting, &mut steps),
+        path(
+            &sheet,
+            question,
+            &both,
+            3,
+            &mut few,
+            &mut pending,
+            &mut steps,
+        ),
         9,
     )?;
     report.refused(
@@ -282,20 +266,28 @@ pub fn refused(report: &mut Report) -> Result<(), AnyError> {
             question,
             &both,
             3,
-            &mut table,
-            &mut waiting,
+            &mut enough,
+            &mut pending,
             &mut steps,
         ),
         10,
     )?;
-    let list = &mut steps[0..2];
+    let mut pair = step_list(report.heap(), 2)?;
     report.refused(
         "no question",
-        path(&sheet, question, &both, 3, &mut table, &mut waiting, list),
+        path(
+            &sheet,
+            question,
+            &both,
+            3,
+            &mut enough,
+            &mut pending,
+            &mut pair,
+        ),
         21,
     )?;
-    report.number("work table as it was", crate::untils::sevens(&table), 48)?;
-    report.number("waiting memory as it was", unused(&waiting), 2)?;
+    report.number("work table as it was", sevens(&few), 47)?;
+    report.number("waiting memory as it was", unused(&pending), 2)?;
     report.number("step list as it was", untouched(&steps), 3)?;
     Ok(())
 }
@@ -308,9 +300,9 @@ pub fn long(report: &mut Report) -> Result<(), AnyError> {
     let mut sheet = Sheet::open(&model);
     made(basics(&mut sheet))?;
     let question = Parts { guard: 0, goal: 0 };
-    let mut work = [7u32; 14];
-    let mut waiting = vec![in report.heap(); FACT; 4200]?;
-    let mut steps = vec![in report.heap(); STEP; 4200]?;
+    let mut work = table(report.heap(), 14)?;
+    let mut pending = waiting(report.heap(), 4200)?;
+    let mut steps = step_list(report.heap(), 4200)?;
     report.refused(
         "4,097 steps",
         path(
@@ -319,7 +311,7 @@ pub fn long(report: &mut Report) -> Result<(), AnyError> {
             &more,
             0,
             &mut work,
-            &mut waiting,
+            &mut pending,
             &mut steps,
         ),
         24,
@@ -333,12 +325,12 @@ pub fn long(report: &mut Report) -> Result<(), AnyError> {
             &full,
             0,
             &mut work,
-            &mut waiting,
+            &mut pending,
             &mut steps,
         ),
         4096,
     )?;
-    report.number("steps of action 0", leading(&steps, 0), 4096)?;
+    report.number("steps of action 0", leading(&steps, 0, 0), 4096)?;
     report.number("later steps as they were", untouched(&steps), 104)?;
     Ok(())
 }
@@ -349,9 +341,9 @@ pub fn large(report: &mut Report) -> Result<(), AnyError> {
     let rules = made(crowded())?;
     let mut sheet = Sheet::open(&model);
     made(basics(&mut sheet))?;
-    let mut work = vec![in report.heap(); 7u32; 16384]?;
-    let mut waiting = [FACT; 64];
-    let mut steps = [STEP; 64];
+    let mut work = table(report.heap(), 16384)?;
+    let mut pending = waiting(report.heap(), 64)?;
+    let mut steps = step_list(report.heap(), 64)?;
     let question = Parts { guard: 2, goal: 4 };
     report.number(
         "the until has the number",
@@ -367,7 +359,7 @@ pub fn large(report: &mut Report) -> Result<(), AnyError> {
             &rules,
             31,
             &mut work,
-            &mut waiting,
+            &mut pending,
             &mut steps,
         ),
         2,
@@ -380,7 +372,7 @@ pub fn large(report: &mut Report) -> Result<(), AnyError> {
             &rules,
             0,
             &mut work,
-            &mut waiting,
+            &mut pending,
             &mut steps,
         ),
         2,

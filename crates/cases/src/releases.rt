@@ -7,6 +7,7 @@ use crate::asking::until;
 use crate::languages::Many;
 use crate::languages::ManyTelling;
 use crate::languages::ab;
+use crate::memory::table;
 use crate::report::Report;
 use crate::report::made;
 use crate::workshop::basics;
@@ -97,11 +98,11 @@ pub fn nested(report: &mut Report) -> Result<(), AnyError> {
     report.heading("untils and releases in one another, over several languages and watchers")?;
     let model = made(workshop())?;
     let odd = made(StepWatcher::new(2, 1, 2))?;
-    let table = made(after_action_1())?;
+    let after = made(after_action_1())?;
     let both = made(ab())?;
     let mut sheet = Sheet::open(&model);
     made(basics(&mut sheet))?;
-    let mut work = [0u32; 48];
+    let mut work = table(report.heap(), 48)?;
     report.number(
         "5: until yes, proposition 0, AB",
         until(&mut sheet, 2, 0, &both, &mut work),
@@ -109,7 +110,7 @@ pub fn nested(report: &mut Report) -> Result<(), AnyError> {
     )?;
     report.number(
         "6: release no, question 5, after action 1",
-        release(&mut sheet, 3, 5, &table),
+        release(&mut sheet, 3, 5, &after),
         6,
     )?;
     report.number(

@@ -6,7 +6,8 @@ use crate::languages::Seventeen;
 use crate::languages::SeventeenTelling;
 use crate::languages::ab;
 use crate::languages::nothing_said;
-use crate::report::Answer;
+use crate::memory::sevens;
+use crate::memory::table;
 use crate::report::Report;
 use crate::report::made;
 use crate::workshop::basics;
@@ -26,7 +27,7 @@ pub fn marked(report: &mut Report) -> Result<(), AnyError> {
     let brackets = made(Brackets::new(0, 1, 2))?;
     let mut sheet = Sheet::open(&model);
     made(basics(&mut sheet))?;
-    let mut work = [7u32; 48];
+    let mut work = table(report.heap(), 48)?;
     report.number(
         "until yes, proposition 0, AB has the number",
         until(&mut sheet, 2, 0, &both, &mut work),
@@ -73,7 +74,7 @@ pub fn refused(report: &mut Report) -> Result<(), AnyError> {
     let three = made(Brackets::new(0, 1, 3))?;
     let mut sheet = Sheet::open(&model);
     made(basics(&mut sheet))?;
-    let mut work = [7u32; 47];
+    let mut work = table(report.heap(), 47)?;
     report.refused(
         "brackets over three actions",
         until(&mut sheet, 9, 9, &three, &mut work),
@@ -90,7 +91,7 @@ pub fn refused(report: &mut Report) -> Result<(), AnyError> {
         9,
     )?;
     report.number("sevens left in the work table", sevens(&work), 47)?;
-    let mut long = [7u32; 48];
+    let mut long = table(report.heap(), 48)?;
     report.refused(
         "AB, guard not made",
         until(&mut sheet, 5, 0, &both, &mut long),
@@ -108,15 +109,4 @@ pub fn refused(report: &mut Report) -> Result<(), AnyError> {
     )?;
     report.number("questions on the sheet", len(&sheet), 6)?;
     Ok(())
-}
-
-// How many entries of a table are 7.
-pub fn sevens(table: &[u32]) -> Answer {
-    let mut found = 0u32;
-    for entry in table {
-        if *entry == 7 {
-            found = found.saturating_add(1);
-        }
-    }
-    Answer::Number(found)
 }
