@@ -375,7 +375,7 @@ pub fn large(report: &mut Report) -> Result<(), AnyError> {
             &mut pending,
             &mut steps,
         ),
-        2,
+        1,
     )?;
     Ok(())
 }

@@ -125,7 +125,7 @@ pub fn nested(report: &mut Report) -> Result<(), AnyError> {
     )?;
     report.number("9: not question 8", not(&mut sheet, 8), 9)?;
     report.number("marks of question 5", marks(&sheet, 5), 3)?;
-    report.number("marks of question 6", marks(&sheet, 6), 3)?;
+    report.number("marks of question 6", marks(&sheet, 6), 11)?;
     report.number("marks of question 7", marks(&sheet, 7), 11)?;
     report.number("marks of question 8", marks(&sheet, 8), 3)?;
     report.number("marks of question 9", marks(&sheet, 9), 12)?;

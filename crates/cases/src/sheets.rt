@@ -42,7 +42,7 @@ pub fn refusals(report: &mut Report) -> Result<(), AnyError> {
     let model = still();
     let mut sheet = Sheet::open(&model);
     report.refused("marks on an empty sheet", marks(&sheet, 0), 21)?;
-    report.accepted("proposition 31", proposition(&mut sheet, 31))?;
+    report.number("proposition 31", proposition(&mut sheet, 31), 0)?;
     report.refused("proposition 32", proposition(&mut sheet, 32), 3)?;
     report.refused("not question 1", not(&mut sheet, 1), 21)?;
     report.refused("question 0 or 1", or(&mut sheet, 0, 1), 21)?;

@@ -103,9 +103,10 @@ pub fn refused(report: &mut Report) -> Result<(), AnyError> {
         21,
     )?;
     report.number("sevens left in the work table", sevens(&long), 48)?;
-    report.accepted(
+    report.number(
         "AB with a work table of 48",
         until(&mut sheet, 0, 0, &both, &mut long),
+        5,
     )?;
     report.number("questions on the sheet", len(&sheet), 6)?;
     Ok(())
