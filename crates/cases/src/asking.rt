@@ -1,11 +1,10 @@
 // The calls of a sheet, each as what came of it.
+use crate::memory::Desk;
 use crate::report::Answer;
 use crate::report::count;
 use language::UntilLanguage;
 use language::Watcher;
 use model::Refusal;
-use model::Step;
-use sheet::Fact;
 use sheet::Sheet;
 
 // The two questions of an until.
@@ -49,22 +48,41 @@ pub fn release<W: Watcher>(sheet: &mut Sheet, freeing: usize, kept: usize, watch
     numbered(sheet.release(freeing, kept, watcher))
 }
 
-// How many steps the path shown has.
+// How many steps the path shown has, and the desk as the call left it.
 pub fn path<L: UntilLanguage>(
     sheet: &Sheet,
     question: Parts,
     language: &L,
     state: u8,
-    work: &mut [u32],
-    waiting: &mut [Fact],
-    steps: &mut [Step],
-) -> Answer {
+    desk: Desk,
+) -> (Answer, Desk) {
+    let Desk {
+        mut work,
+        mut waiting,
+        mut steps,
+    } = desk;
     let Parts { guard, goal } = question;
-    match sheet.path(guard, goal, language, state, work, waiting, steps) {
+    let answer = match sheet.path(
+        guard,
+        goal,
+        language,
+        state,
+        &mut work,
+        &mut waiting,
+        &mut steps,
+    ) {
         Ok(None) => Answer::Nothing,
         Ok(Some(n)) => count(n),
         Err(cause) => Answer::Refused(cause.number()),
-    }
+    };
+    (
+        answer,
+        Desk {
+            work,
+            waiting,
+            steps,
+        },
+    )
 }
 
 // The marks as the sum of 2^s.

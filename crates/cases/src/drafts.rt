@@ -10,6 +10,11 @@ use model::Edge;
 use model::Model;
 use std::error::AnyError;
 
+// Whether an edge is taken.
+fn add(draft: &mut Draft, from: u8, action: u8, to: u8) -> Answer {
+    outcome(draft.add_edge(Edge { from, action, to }))
+}
+
 // Prints the sizes of a model and how many edges it has.
 fn model_is(
     report: &mut Report,
@@ -36,14 +41,7 @@ pub fn sizes(report: &mut Report) -> Result<(), AnyError> {
     report.heading("sizing a draft")?;
     let mut draft = Draft::new();
     report.accepted("32 states and 16 actions", outcome(draft.size(32, 16)))?;
-    report.accepted(
-        "the last edge",
-        outcome(draft.add_edge(Edge {
-            from: 31,
-            action: 15,
-            to: 31,
-        })),
-    )?;
+    report.accepted("the last edge", add(&mut draft, 31, 15, 31))?;
     report.refused("0 states", outcome(draft.size(0, 1)), 4)?;
     report.refused("33 states", outcome(draft.size(33, 1)), 4)?;
     report.refused("0 actions", outcome(draft.size(1, 0)), 4)?;
@@ -58,50 +56,11 @@ pub fn sizes(report: &mut Report) -> Result<(), AnyError> {
 pub fn edges(report: &mut Report) -> Result<(), AnyError> {
     report.heading("adding edges to 5 states, 16 actions and 256 edges")?;
     let mut draft = made(full_draft())?;
-    report.refused(
-        "from a missing state",
-        outcome(draft.add_edge(Edge {
-            from: 5,
-            action: 16,
-            to: 0,
-        })),
-        1,
-    )?;
-    report.refused(
-        "to a missing state",
-        outcome(draft.add_edge(Edge {
-            from: 0,
-            action: 16,
-            to: 5,
-        })),
-        1,
-    )?;
-    report.refused(
-        "by a missing action",
-        outcome(draft.add_edge(Edge {
-            from: 0,
-            action: 16,
-            to: 0,
-        })),
-        2,
-    )?;
-    report.accepted(
-        "one that is there",
-        outcome(draft.add_edge(Edge {
-            from: 3,
-            action: 15,
-            to: 3,
-        })),
-    )?;
-    report.refused(
-        "one more",
-        outcome(draft.add_edge(Edge {
-            from: 4,
-            action: 0,
-            to: 0,
-        })),
-        23,
-    )?;
+    report.refused("from a missing state", add(&mut draft, 5, 16, 0), 1)?;
+    report.refused("to a missing state", add(&mut draft, 0, 16, 5), 1)?;
+    report.refused("by a missing action", add(&mut draft, 0, 16, 0), 2)?;
+    report.accepted("one that is there", add(&mut draft, 3, 15, 3))?;
+    report.refused("one more", add(&mut draft, 4, 0, 0), 23)?;
     report.heading("the draft is as it was:")?;
     let model = draft.seal();
     let more = model.has_edge(Edge {

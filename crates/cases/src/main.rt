@@ -24,8 +24,10 @@ fn run(rt: &LibcRuntime) -> Result<(), AnyError> {
     untils::marked(&mut report)?;
     untils::refused(&mut report)?;
     paths::counted(&mut report)?;
+    paths::bracketed(&mut report)?;
     paths::circling(&mut report)?;
     paths::refused(&mut report)?;
+    paths::unserved(&mut report)?;
     paths::long(&mut report)?;
     paths::large(&mut report)?;
     releases::marked(&mut report)?;

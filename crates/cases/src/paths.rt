@@ -10,13 +10,8 @@ use crate::languages::circles;
 use crate::languages::crowded;
 use crate::languages::doubling;
 use crate::languages::empty_circles;
-use crate::memory::leading;
-use crate::memory::sevens;
-use crate::memory::step_list;
+use crate::memory::Desk;
 use crate::memory::table;
-use crate::memory::untouched;
-use crate::memory::unused;
-use crate::memory::waiting;
 use crate::report::Report;
 use crate::report::made;
 use crate::workshop::basics;
@@ -36,163 +31,58 @@ pub fn counted(report: &mut Report) -> Result<(), AnyError> {
     let mut sheet = Sheet::open(&model);
     made(basics(&mut sheet))?;
     let question = Parts { guard: 2, goal: 0 };
-    let mut work = table(report.heap(), 48)?;
-    let mut pending = waiting(report.heap(), 12)?;
-    let mut steps = step_list(report.heap(), 12)?;
-    report.none(
-        "from 2",
-        path(
-            &sheet,
-            question,
-            &both,
-            2,
-            &mut work,
-            &mut pending,
-            &mut steps,
-        ),
-    )?;
-    report.number("step list as it was", untouched(&steps), 12)?;
-    report.number(
-        "from 1",
-        path(
-            &sheet,
-            question,
-            &both,
-            1,
-            &mut work,
-            &mut pending,
-            &mut steps,
-        ),
-        6,
-    )?;
-    report.number("later steps as they were", untouched(&steps), 6)?;
-    report.number(
-        "from 0",
-        path(
-            &sheet,
-            question,
-            &both,
-            0,
-            &mut work,
-            &mut pending,
-            &mut steps,
-        ),
-        12,
-    )?;
-    report.number("steps of action 0", leading(&steps, 0, 0), 6)?;
-    report.number("then steps of action 1", leading(&steps, 6, 1), 6)?;
-    let mut short = step_list(report.heap(), 11)?;
-    report.refused(
-        "from 0, 11 places",
-        path(
-            &sheet,
-            question,
-            &both,
-            0,
-            &mut work,
-            &mut pending,
-            &mut short,
-        ),
-        24,
-    )?;
-    report.number("step list as it was", untouched(&short), 11)?;
+    let desk = Desk::new(report.heap(), 48, 12, 12)?;
+    let (answer, desk) = path(&sheet, question, &both, 2, desk);
+    report.none("from 2", answer)?;
+    report.number("step list as it was", desk.untouched(), 12)?;
+    let (answer, desk) = path(&sheet, question, &both, 1, desk);
+    report.number("from 1", answer, 6)?;
+    report.number("later steps as they were", desk.untouched(), 6)?;
+    let (answer, desk) = path(&sheet, question, &both, 0, desk);
+    report.number("from 0", answer, 12)?;
+    report.number("steps of action 0", desk.leading(0, 0), 6)?;
+    report.number("then steps of action 1", desk.leading(6, 1), 6)?;
+    let short = Desk::new(report.heap(), 48, 12, 11)?;
+    let (answer, short) = path(&sheet, question, &both, 0, short);
+    report.refused("from 0, 11 places", answer, 24)?;
+    report.number("step list as it was", short.untouched(), 11)?;
+    Ok(())
+}
+
+pub fn bracketed(report: &mut Report) -> Result<(), AnyError> {
+    report.heading("paths to proposition 1 by brackets")?;
+    let model = made(workshop())?;
+    let brackets = made(Brackets::new(0, 1, 2))?;
+    let mut sheet = Sheet::open(&model);
+    made(basics(&mut sheet))?;
+    let question = Parts { guard: 2, goal: 4 };
+    let desk = Desk::new(report.heap(), 48, 12, 12)?;
+    let (answer, desk) = path(&sheet, question, &brackets, 1, desk);
+    report.number("from 1", answer, 10)?;
+    let (answer, _) = path(&sheet, question, &brackets, 3, desk);
+    report.number("from 3", answer, 0)?;
     Ok(())
 }
 
 pub fn circling(report: &mut Report) -> Result<(), AnyError> {
-    report.heading("paths by brackets, and by rules that go in circles")?;
+    report.heading("paths by rules that go in circles")?;
     let model = made(workshop())?;
-    let brackets = made(Brackets::new(0, 1, 2))?;
     let ring = made(circles())?;
     let still = made(empty_circles())?;
     let mut sheet = Sheet::open(&model);
     made(basics(&mut sheet))?;
-    let mut work = table(report.heap(), 64)?;
-    let mut pending = waiting(report.heap(), 12)?;
-    let mut steps = step_list(report.heap(), 12)?;
     let marked = Parts { guard: 2, goal: 4 };
-    let other = Parts { guard: 2, goal: 1 };
-    report.number(
-        "brackets, from 1",
-        path(
-            &sheet,
-            marked,
-            &brackets,
-            1,
-            &mut work,
-            &mut pending,
-            &mut steps,
-        ),
-        10,
-    )?;
-    report.number(
-        "brackets, from 3",
-        path(
-            &sheet,
-            marked,
-            &brackets,
-            3,
-            &mut work,
-            &mut pending,
-            &mut steps,
-        ),
-        0,
-    )?;
-    report.number(
-        "circles, from 1",
-        path(&sheet, other, &ring, 1, &mut work, &mut pending, &mut steps),
-        2,
-    )?;
-    report.number(
-        "circles, from 2",
-        path(
-            &sheet,
-            marked,
-            &ring,
-            2,
-            &mut work,
-            &mut pending,
-            &mut steps,
-        ),
-        1,
-    )?;
-    report.none(
-        "circles, from 0",
-        path(
-            &sheet,
-            marked,
-            &ring,
-            0,
-            &mut work,
-            &mut pending,
-            &mut steps,
-        ),
-    )?;
-    report.number(
-        "empty circles, from 3",
-        path(
-            &sheet,
-            marked,
-            &still,
-            3,
-            &mut work,
-            &mut pending,
-            &mut steps,
-        ),
-        0,
-    )?;
-    report.none(
-        "empty circles, from 0",
-        path(
-            &sheet,
-            marked,
-            &still,
-            0,
-            &mut work,
-            &mut pending,
-            &mut steps,
-        ),
-    )?;
+    let desk = Desk::new(report.heap(), 64, 12, 12)?;
+    let (answer, desk) = path(&sheet, Parts { guard: 2, goal: 1 }, &ring, 1, desk);
+    report.number("letters, from 1", answer, 2)?;
+    let (answer, desk) = path(&sheet, marked, &ring, 2, desk);
+    report.number("letters, from 2", answer, 1)?;
+    let (answer, desk) = path(&sheet, marked, &ring, 0, desk);
+    report.none("letters, from 0", answer)?;
+    let (answer, desk) = path(&sheet, marked, &still, 3, desk);
+    report.number("empty words, from 3", answer, 0)?;
+    let (answer, _) = path(&sheet, marked, &still, 0, desk);
+    report.none("empty words, from 0", answer)?;
     Ok(())
 }
 
@@ -203,92 +93,37 @@ pub fn refused(report: &mut Report) -> Result<(), AnyError> {
     let three = made(Brackets::new(0, 1, 3))?;
     let sheet = Sheet::open(&model);
     let question = Parts { guard: 0, goal: 0 };
-    let mut few = table(report.heap(), 47)?;
-    let mut enough = table(report.heap(), 48)?;
-    let mut pending = waiting(report.heap(), 2)?;
-    let mut steps = step_list(report.heap(), 3)?;
-    report.refused(
-        "from state 4",
-        path(
-            &sheet,
-            question,
-            &three,
-            4,
-            &mut few,
-            &mut pending,
-            &mut steps,
-        ),
-        1,
-    )?;
-    report.refused(
-        "three actions",
-        path(
-            &sheet,
-            question,
-            &three,
-            3,
-            &mut few,
-            &mut pending,
-            &mut steps,
-        ),
-        7,
-    )?;
-    report.refused(
-        "17 symbols",
-        path(
-            &sheet,
-            question,
-            &Seventeen,
-            3,
-            &mut few,
-            &mut pending,
-            &mut steps,
-        ),
-        8,
-    )?;
-    report.refused(
-        "47 entries",
-        path(
-            &sheet,
-            question,
-            &both,
-            3,
-            &mut few,
-            &mut pending,
-            &mut steps,
-        ),
-        9,
-    )?;
-    report.refused(
-        "2 to wait",
-        path(
-            &sheet,
-            question,
-            &both,
-            3,
-            &mut enough,
-            &mut pending,
-            &mut steps,
-        ),
-        10,
-    )?;
-    let mut pair = step_list(report.heap(), 2)?;
-    report.refused(
-        "no question",
-        path(
-            &sheet,
-            question,
-            &both,
-            3,
-            &mut enough,
-            &mut pending,
-            &mut pair,
-        ),
-        21,
-    )?;
-    report.number("work table as it was", sevens(&few), 47)?;
-    report.number("waiting memory as it was", unused(&pending), 2)?;
-    report.number("step list as it was", untouched(&steps), 3)?;
+    let desk = Desk::new(report.heap(), 47, 2, 3)?;
+    let (answer, desk) = path(&sheet, question, &three, 4, desk);
+    report.refused("from state 4", answer, 1)?;
+    let (answer, desk) = path(&sheet, question, &three, 3, desk);
+    report.refused("a language over three actions", answer, 7)?;
+    let (answer, desk) = path(&sheet, question, &Seventeen, 3, desk);
+    report.refused("17 symbols", answer, 8)?;
+    let (answer, desk) = path(&sheet, question, &both, 3, desk);
+    report.refused("a work table of 47", answer, 9)?;
+    report.number("work table as it was", desk.sevens(), 47)?;
+    report.number("waiting memory as it was", desk.unused(), 2)?;
+    report.number("step list as it was", desk.untouched(), 3)?;
+    Ok(())
+}
+
+pub fn unserved(report: &mut Report) -> Result<(), AnyError> {
+    report.heading("paths that are refused with a work table of 48")?;
+    let model = made(workshop())?;
+    let both = made(ab())?;
+    let sheet = Sheet::open(&model);
+    let question = Parts { guard: 0, goal: 0 };
+    let desk = Desk::new(report.heap(), 48, 2, 3)?;
+    let (answer, desk) = path(&sheet, question, &both, 3, desk);
+    report.refused("waiting memory shorter than the step list", answer, 10)?;
+    report.number("work table as it was", desk.sevens(), 48)?;
+    let even = Desk::new(report.heap(), 48, 3, 3)?;
+    let (answer, even) = path(&sheet, question, &both, 3, even);
+    report.refused("a question that is not made", answer, 21)?;
+    report.number("work table as it was", even.sevens(), 48)?;
+    report.number("waiting memory as it was", even.unused(), 3)?;
+    report.number("step list as it was", even.untouched(), 3)?;
     Ok(())
 }
 
@@ -300,38 +135,14 @@ pub fn long(report: &mut Report) -> Result<(), AnyError> {
     let mut sheet = Sheet::open(&model);
     made(basics(&mut sheet))?;
     let question = Parts { guard: 0, goal: 0 };
-    let mut work = table(report.heap(), 14)?;
-    let mut pending = waiting(report.heap(), 4200)?;
-    let mut steps = step_list(report.heap(), 4200)?;
-    report.refused(
-        "4,097 steps",
-        path(
-            &sheet,
-            question,
-            &more,
-            0,
-            &mut work,
-            &mut pending,
-            &mut steps,
-        ),
-        24,
-    )?;
-    report.number("step list as it was", untouched(&steps), 4200)?;
-    report.number(
-        "4,096 steps",
-        path(
-            &sheet,
-            question,
-            &full,
-            0,
-            &mut work,
-            &mut pending,
-            &mut steps,
-        ),
-        4096,
-    )?;
-    report.number("steps of action 0", leading(&steps, 0, 0), 4096)?;
-    report.number("later steps as they were", untouched(&steps), 104)?;
+    let desk = Desk::new(report.heap(), 14, 4200, 4200)?;
+    let (answer, desk) = path(&sheet, question, &more, 0, desk);
+    report.refused("4,097 steps", answer, 24)?;
+    report.number("step list as it was", desk.untouched(), 4200)?;
+    let (answer, desk) = path(&sheet, question, &full, 0, desk);
+    report.number("4,096 steps", answer, 4096)?;
+    report.number("steps of action 0", desk.leading(0, 0), 4096)?;
+    report.number("later steps as they were", desk.untouched(), 104)?;
     Ok(())
 }
 
@@ -342,40 +153,14 @@ pub fn large(report: &mut Report) -> Result<(), AnyError> {
     let mut sheet = Sheet::open(&model);
     made(basics(&mut sheet))?;
     let mut work = table(report.heap(), 16384)?;
-    let mut pending = waiting(report.heap(), 64)?;
-    let mut steps = step_list(report.heap(), 64)?;
-    let question = Parts { guard: 2, goal: 4 };
-    report.number(
-        "the until has the number",
-        until(&mut sheet, 2, 4, &rules, &mut work),
-        5,
-    )?;
+    let found = until(&mut sheet, 2, 4, &rules, &mut work);
+    report.number("the until has the number", found, 5)?;
     report.number("its marks", marks(&sheet, 5), 4294967295)?;
-    report.number(
-        "from 31",
-        path(
-            &sheet,
-            question,
-            &rules,
-            31,
-            &mut work,
-            &mut pending,
-            &mut steps,
-        ),
-        2,
-    )?;
-    report.number(
-        "from 0",
-        path(
-            &sheet,
-            question,
-            &rules,
-            0,
-            &mut work,
-            &mut pending,
-            &mut steps,
-        ),
-        1,
-    )?;
+    let question = Parts { guard: 2, goal: 4 };
+    let desk = Desk::new(report.heap(), 16384, 64, 64)?;
+    let (answer, desk) = path(&sheet, question, &rules, 31, desk);
+    report.number("path from 31", answer, 2)?;
+    let (answer, _) = path(&sheet, question, &rules, 0, desk);
+    report.number("path from 0", answer, 1)?;
     Ok(())
 }
