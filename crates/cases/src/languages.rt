@@ -12,12 +12,17 @@ use language::UntilLanguage;
 use language::Watcher;
 use model::Refusal;
 
+// Adds one rule.
+fn put(grammar: &mut Grammar, rule: Rule) -> Result<(), Refusal> {
+    grammar.add_rule(rule)
+}
+
 // The rules, one after another.
 pub fn grammar(symbols: u8, actions: u8, rules: &[Rule]) -> Result<Grammar, Refusal> {
     let mut grammar = Grammar::new();
     grammar.size(symbols, actions)?;
     for rule in rules {
-        grammar.add_rule(*rule)?;
+        put(&mut grammar, *rule)?;
     }
     Ok(grammar)
 }
@@ -56,22 +61,31 @@ pub fn doubling(doublings: u8, first: u8) -> Result<Grammar, Refusal> {
     for k in 0..doublings {
         let head = first.saturating_add(k);
         let next = head.saturating_add(1);
-        grammar.add_rule(Rule::Pair {
-            head,
-            left: next,
-            right: next,
-        })?;
+        put(
+            &mut grammar,
+            Rule::Pair {
+                head,
+                left: next,
+                right: next,
+            },
+        )?;
     }
-    grammar.add_rule(Rule::Letter {
-        head: first.saturating_add(doublings),
-        action: 0,
-    })?;
-    if first > 0 {
-        grammar.add_rule(Rule::Lead {
-            head: 0,
+    put(
+        &mut grammar,
+        Rule::Letter {
+            head: first.saturating_add(doublings),
             action: 0,
-            rest: 1,
-        })?;
+        },
+    )?;
+    if first > 0 {
+        put(
+            &mut grammar,
+            Rule::Lead {
+                head: 0,
+                action: 0,
+                rest: 1,
+            },
+        )?;
     }
     Ok(grammar)
 }
@@ -128,44 +142,68 @@ pub fn crowded() -> Result<Grammar, Refusal> {
     let mut grammar = Grammar::new();
     grammar.size(16, 8)?;
     for head in 0..16u8 {
-        grammar.add_rule(Rule::Letter {
-            head,
-            action: head % 8,
-        })?;
-        grammar.add_rule(Rule::Lead {
-            head,
-            action: (head + 1) % 8,
-            rest: (head + 3) % 16,
-        })?;
-        grammar.add_rule(Rule::Lead {
-            head,
-            action: (head + 5) % 8,
-            rest: (head + 7) % 16,
-        })?;
-        grammar.add_rule(Rule::Lead {
-            head,
-            action: (head + 3) % 8,
-            rest: (head + 13) % 16,
-        })?;
-        grammar.add_rule(Rule::Same {
-            head,
-            body: (head + 1) % 16,
-        })?;
-        grammar.add_rule(Rule::Pair {
-            head,
-            left: (head + 2) % 16,
-            right: (head + 5) % 16,
-        })?;
-        grammar.add_rule(Rule::Pair {
-            head,
-            left: (head + 9) % 16,
-            right: (head + 4) % 16,
-        })?;
-        grammar.add_rule(Rule::Pair {
-            head,
-            left: (head + 11) % 16,
-            right: head,
-        })?;
+        put(
+            &mut grammar,
+            Rule::Letter {
+                head,
+                action: head % 8,
+            },
+        )?;
+        put(
+            &mut grammar,
+            Rule::Lead {
+                head,
+                action: (head + 1) % 8,
+                rest: (head + 3) % 16,
+            },
+        )?;
+        put(
+            &mut grammar,
+            Rule::Lead {
+                head,
+                action: (head + 5) % 8,
+                rest: (head + 7) % 16,
+            },
+        )?;
+        put(
+            &mut grammar,
+            Rule::Lead {
+                head,
+                action: (head + 3) % 8,
+                rest: (head + 13) % 16,
+            },
+        )?;
+        put(
+            &mut grammar,
+            Rule::Same {
+                head,
+                body: (head + 1) % 16,
+            },
+        )?;
+        put(
+            &mut grammar,
+            Rule::Pair {
+                head,
+                left: (head + 2) % 16,
+                right: (head + 5) % 16,
+            },
+        )?;
+        put(
+            &mut grammar,
+            Rule::Pair {
+                head,
+                left: (head + 9) % 16,
+                right: (head + 4) % 16,
+            },
+        )?;
+        put(
+            &mut grammar,
+            Rule::Pair {
+                head,
+                left: (head + 11) % 16,
+                right: head,
+            },
+        )?;
     }
     Ok(grammar)
 }

@@ -5,10 +5,20 @@ use model::Model;
 use model::Refusal;
 use sheet::Sheet;
 
+// Adds one edge.
+fn put(draft: &mut Draft, edge: Edge) -> Result<(), Refusal> {
+    draft.add_edge(edge)
+}
+
+// Adds one proposition.
+fn label(draft: &mut Draft, state: u8, proposition: u8) -> Result<(), Refusal> {
+    draft.label(state, proposition)
+}
+
 // Adds each of the edges.
 fn add_all(draft: &mut Draft, edges: &[Edge]) -> Result<(), Refusal> {
     for edge in edges {
-        draft.add_edge(*edge)?;
+        put(draft, *edge)?;
     }
     Ok(())
 }
@@ -45,8 +55,8 @@ pub fn workshop() -> Result<Model, Refusal> {
         },
     ];
     add_all(&mut draft, &edges)?;
-    draft.label(0, 0)?;
-    draft.label(3, 1)?;
+    label(&mut draft, 0, 0)?;
+    label(&mut draft, 3, 1)?;
     Ok(draft.seal())
 }
 
@@ -61,11 +71,14 @@ pub fn full_draft() -> Result<Draft, Refusal> {
     draft.size(5, 16)?;
     for action in 0..16u8 {
         for place in 0..16u8 {
-            draft.add_edge(Edge {
-                from: place / 4,
-                action,
-                to: place % 4,
-            })?;
+            put(
+                &mut draft,
+                Edge {
+                    from: place / 4,
+                    action,
+                    to: place % 4,
+                },
+            )?;
         }
     }
     Ok(draft)
@@ -74,12 +87,15 @@ pub fn full_draft() -> Result<Draft, Refusal> {
 // One state with an edge back to it by its one action; it has proposition 0.
 pub fn spinning() -> Result<Model, Refusal> {
     let mut draft = Draft::new();
-    draft.add_edge(Edge {
-        from: 0,
-        action: 0,
-        to: 0,
-    })?;
-    draft.label(0, 0)?;
+    put(
+        &mut draft,
+        Edge {
+            from: 0,
+            action: 0,
+            to: 0,
+        },
+    )?;
+    label(&mut draft, 0, 0)?;
     Ok(draft.seal())
 }
 
@@ -89,24 +105,41 @@ pub fn dense() -> Result<Model, Refusal> {
     draft.size(32, 8)?;
     for from in 0..32u8 {
         for action in 0..8u8 {
-            draft.add_edge(Edge {
-                from,
-                action,
-                to: (from * 3 + action * 5 + 1) % 32,
-            })?;
+            put(
+                &mut draft,
+                Edge {
+                    from,
+                    action,
+                    to: (from * 3 + action * 5 + 1) % 32,
+                },
+            )?;
         }
     }
-    draft.label(0, 0)?;
-    draft.label(31, 1)?;
+    label(&mut draft, 0, 0)?;
+    label(&mut draft, 31, 1)?;
     Ok(draft.seal())
 }
 
 // Five questions that the cases share: 0 proposition 0, 1 its not, 2 yes (one of the two), 3 no, 4 proposition 1.
 pub fn basics(sheet: &mut Sheet) -> Result<(), Refusal> {
-    sheet.proposition(0)?;
-    sheet.not(0)?;
-    sheet.or(0, 1)?;
-    sheet.not(2)?;
-    sheet.proposition(1)?;
+    proposition(sheet, 0)?;
+    not(sheet, 0)?;
+    or(sheet, 0, 1)?;
+    not(sheet, 2)?;
+    proposition(sheet, 1)
+}
+
+fn proposition(sheet: &mut Sheet, p: u8) -> Result<(), Refusal> {
+    sheet.proposition(p)?;
+    Ok(())
+}
+
+fn not(sheet: &mut Sheet, q: usize) -> Result<(), Refusal> {
+    sheet.not(q)?;
+    Ok(())
+}
+
+fn or(sheet: &mut Sheet, left: usize, right: usize) -> Result<(), Refusal> {
+    sheet.or(left, right)?;
     Ok(())
 }
