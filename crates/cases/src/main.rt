@@ -1,4 +1,6 @@
 // Works the cases of the workshop model and the limits of drafts and sheets, and prints each beside what is expected.
+#![tactic(auto)]
+
 mod asking;
 mod drafts;
 mod languages;

@@ -1,4 +1,6 @@
 // Three until languages: a grammar, an automaton and brackets.
+#![tactic(auto)]
+
 mod automaton;
 mod brackets;
 mod grammar;

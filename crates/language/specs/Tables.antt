@@ -1,5 +1,5 @@
 -- What a watcher tells, and its runs.
-use Rattle.std.specs.Prelude.{◌≡◌, ℕ, ◌<◌, ◌≤◌, Bool, true, false, ◌⊎◌, List, [], ◌∷◌, Some, None, Option}
+use Rattle.std.specs.Prelude.{◌≡◌, ℕ, ◌<◌, ◌≤◌, Bool, true, false, [], ◌∷◌, Some, None, Option}
 use Rattle.std.specs.Option.{unwrap_or}
 use Rattle.language.specs.Words.{Word}
 

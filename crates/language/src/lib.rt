@@ -1,4 +1,6 @@
 // What a language is: the rules of an until language, the table of a watcher, and the traits that code is generic over.
+#![tactic(auto)]
+
 mod alphabet;
 mod rule;
 mod until_language;

@@ -1,5 +1,5 @@
 -- A path of a model stays among its states.
-use mathlib.Core.Path.{◌≡◌, subst}
+use mathlib.Core.Path.{subst}
 use mathlib.Core.List.{List, [], ◌∷◌}
 use Prim.Native.Nat.{ℕ, zero, suc, ◌<◌, ◌≤◌}
 use native.Mathlib.Omega.{arith}
@@ -11,7 +11,7 @@ use Rattle.model.specs.Edges.{Inside, no_edge}
 use Rattle.model.specs.Models.{HasEdge}
 use Rattle.model.proofs.Tables.{among_place}
 use Rattle.logic.specs.Paths.{edge, Chain, end}
-use Rattle.logic.specs.Maximal.{first, Maximal, stopped, endless, before, state_at}
+use Rattle.logic.specs.Maximal.{Maximal, stopped, endless, before, state_at}
 
 -- an edge of a model names states and an action that are there
 pub edge_inside : (m : Model) (e : Edge) → HasEdge m e → Inside m.states m.actions e

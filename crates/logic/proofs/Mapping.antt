@@ -1,12 +1,12 @@
 -- What a path or a maximal path is good for, under facts that say the same at the model's states.
 use mathlib.Core.List.{List, [], ◌∷◌}
-use mathlib.Core.Logic.{◌⊎◌, inl, inr, ⊎_elim}
+use mathlib.Core.Logic.{inl, inr, ⊎_elim}
 use Prim.Native.Nat.{ℕ, ◌<◌}
 use Rattle.model.specs.declared.edge.Step.{Step}
 use Rattle.model.specs.declared.model.Model.{Model}
 use Rattle.language.specs.Words.{Word}
 use Rattle.logic.specs.Paths.{edge, Chain, Before, Good, SomeGood}
-use Rattle.logic.specs.Maximal.{Maximal, Keeps, SomeKeeps, BreaksAt, state_at}
+use Rattle.logic.specs.Maximal.{Maximal, Keeps, SomeKeeps}
 use Rattle.logic.proofs.Inside.{edge_inside, end_inside, state_inside}
 
 -- one fact follows from another at each state of the model

@@ -1,1 +1,2 @@
 // What a formula says of a model: specs/ has the definitions, and proofs/ the laws that the searches rest on.
+#![tactic(auto)]

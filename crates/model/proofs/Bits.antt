@@ -1,12 +1,12 @@
 -- Membership in a union, in a set of one and in none.
-use Rattle.std.proofs.Common.{◌≡◌, ℕ, zero, suc, ◌+◌, ◌-◌, ◌*◌, ◌/◌, ◌%◌, ◌^◌, ◌<◌, ◌≤◌, min, max, eqb, ◌⊎◌, Decides, sym, refl, ap, ◌∙◌, subst, inl, inr, ⊎_elim, mul_comm, add-mul, arith}
-use native.Mathlib.Decide.{dec_lt, dec_le, ℕ_discrete}
+use Rattle.std.proofs.Common.{◌≡◌, ℕ, zero, suc, ◌+◌, ◌-◌, ◌*◌, ◌/◌, ◌%◌, ◌^◌, ◌<◌, ◌≤◌, min, eqb, ◌⊎◌, Decides, sym, refl, ap, ◌∙◌, subst, inl, inr, mul_comm, add-mul, arith}
+use native.Mathlib.Decide.{dec_lt, ℕ_discrete}
 use native.Mathlib.Nat.{div-eq_of_lt, zero-div, div_self, two-pow-succ}
 use lib.Bits.{bit_or, bit_and, bit_xor, differ, or_step, or_shr, and_step, and_shr, xor_step, xor_shr, and_mask, shifted_even, or_shifted_r}
 use Rattle.model.proofs.Joins.{joined_like}
 use Rattle.std.proofs.lemmas.Nat.{pow_pos, pow-add, pow_below, shl-shr, shr_high, one_shl, leading_top}
 use lib.Count.{count_leading_zeros}
-use Rattle.std.proofs.lemmas.Bool.Decides.{Decides-eqb, Decides-at}
+use Rattle.std.proofs.lemmas.Bool.Decides.{Decides-eqb}
 use Rattle.model.specs.Sets.{Bit}
 use Rattle.model.specs.Relations.{Joined, Exactly}
 

@@ -1,5 +1,5 @@
 -- Tables of edges: the first n places of a list are in use.
-use Rattle.std.specs.Prelude.{◌≡◌, ℕ, ◌<◌, List, slice_index_or}
+use Rattle.std.specs.Prelude.{ℕ, ◌<◌, List, slice_index_or}
 use Rattle.model.specs.declared.edge.Edge.{Edge}
 
 -- an edge names states and an action that are there

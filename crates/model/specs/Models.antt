@@ -1,7 +1,6 @@
 -- A model as a reader sees it: its edges, and the propositions of its states.
-use Rattle.std.specs.Prelude.{ℕ, ◌<◌, List, take, slice_index_or}
+use Rattle.std.specs.Prelude.{ℕ, List, take, slice_index_or}
 use Rattle.model.specs.declared.edge.Edge.{Edge}
-use Rattle.model.specs.declared.edge.Step.{Step}
 use Rattle.model.specs.declared.number_set.NumberSet.{NumberSet}
 use Rattle.model.specs.declared.state_record.StateRecord.{StateRecord}
 use Rattle.model.specs.declared.model.Model.{Model}

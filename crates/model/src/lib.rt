@@ -1,4 +1,6 @@
 // Finite models of a sync rule set: numbered states and actions, edges and propositions.
+#![tactic(auto)]
+
 mod draft;
 mod edge;
 mod model;

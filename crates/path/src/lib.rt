@@ -1,4 +1,6 @@
 // The path behind a yes: a shortest path from a state into the goal, guarded before its end, whose word a language has.
+#![tactic(auto)]
+
 mod reaching;
 mod search;
 mod shrinking;

@@ -1,5 +1,7 @@
 // Positions, sets of them, and the turn of a search over them. A position is a pair of a state and a watcher state.
 // Only the searches call these functions, and keep what they require.
+#![tactic(auto)]
+
 mod position;
 mod positions;
 mod progress;

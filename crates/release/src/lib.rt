@@ -1,4 +1,6 @@
 // The search behind a release, over positions: pairs of a state and a watcher state. One text for every watcher.
+#![tactic(auto)]
+
 mod search;
 
 pub use positions::{Position, Positions};

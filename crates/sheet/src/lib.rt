@@ -1,4 +1,6 @@
 // A sheet of questions about a model, each answered as it is asked.
+#![tactic(auto)]
+
 mod question;
 mod sheet;
 

@@ -1,5 +1,7 @@
 // The until search, for every until language: the facts of a guarded model with their least heights, and the states
 // from which a good path starts.
+#![tactic(auto)]
+
 mod fact_table;
 mod filling;
 mod marking;

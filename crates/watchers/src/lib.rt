@@ -1,4 +1,6 @@
 // Two watchers, and whether a watcher's set has a word.
+#![tactic(auto)]
+
 mod accepting;
 mod step_watcher;
 mod table_watcher;

@@ -1,4 +1,6 @@
 // Works some words of each kind of language, and compares what was found with what is expected.
+#![tactic(auto)]
+
 mod answer;
 mod checks;
 mod samples;

@@ -1,5 +1,5 @@
-use Rattle.std.proofs.Common.{◌≡◌, ◌<◌, sym, refl, subst, arith}
-use Rattle.model.specs.Sets.{Has, nothing}
+use Rattle.std.proofs.Common.{refl, subst, arith}
+use Rattle.model.specs.Sets.{Has}
 use Rattle.model.proofs.Bits.{bit_none}
 use Rattle.model.proofs.Joins.{joined_none, joined_more, joined_exactly, joined_exact}
 use Rattle.model.proofs.model.Model.labelled.Goals as goal
@@ -8,7 +8,7 @@ pub loop-s-init : goal.loop-s-init
 loop-s-init c = joined_none _
 
 pub loop-s-preserved : goal.loop-s-preserved
-loop-s-preserved c = joined_more _ _ c.loop-s.invariant (joined_exactly c.labelled-at.ensures c.union-found.ensures)
+loop-s-preserved c = joined_more _ _ c.loop-s.invariant (joined_exactly c.labelled_at.ensures c.union-found.ensures)
 
 pub returns : goal.returns
 returns c = joined_exact _ _ (λ t h. bit_none t (subst (λ x. Has x t) c.empty-found.ensures h))

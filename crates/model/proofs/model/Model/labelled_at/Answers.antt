@@ -1,6 +1,6 @@
-use Rattle.std.proofs.Common.{◌≡◌, ℕ, ◌<◌, sym, refl, ◌∙◌, subst, arith}
+use Rattle.std.proofs.Common.{sym, ◌∙◌, subst, arith}
 use borrow.Author.Tests.{clash}
-use Rattle.model.specs.Sets.{Has, Bit}
+use Rattle.model.specs.Sets.{Has}
 use Rattle.model.specs.Models.{Labelled}
 use Rattle.model.proofs.Bits.{bit_none}
 use Rattle.model.proofs.model.Model.labelled_at.Goals as goal

@@ -1,4 +1,4 @@
-use Rattle.std.proofs.Common.{◌^◌, ◌<◌, ◌≤◌, arith, rules}
+use Rattle.std.proofs.Common.{◌^◌, ◌<◌, arith, rules}
 use borrow.Author.Tests.{clash}
 use Rattle.model.specs.Sets.{Bit}
 use Rattle.model.proofs.Bits.{bit_decided, bit_below}

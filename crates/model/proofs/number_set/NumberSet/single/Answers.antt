@@ -1,4 +1,4 @@
-use Rattle.model.proofs.Bits.{shl_exact, none_has}
+use Rattle.model.proofs.Bits.{shl_exact}
 use Rattle.model.proofs.number_set.NumberSet.single.Goals as goal
 
 pub returns-then-n-lt32 : goal.returns-then-n-lt32

@@ -1,4 +1,4 @@
-use Rattle.std.proofs.Common.{◌≡◌, ℕ, suc, ◌-◌, ◌<◌, length, take, refl, ap, ◌∙◌, arith, take-suc}
+use Rattle.std.proofs.Common.{◌≡◌, suc, ◌-◌, ◌<◌, length, take, refl, ap, ◌∙◌, arith, take-suc}
 use Rattle.pile.proofs.base.Pile.pop.Goals as goal
 
 pub returns : goal.returns

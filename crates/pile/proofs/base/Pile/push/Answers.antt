@@ -1,4 +1,4 @@
-use Rattle.std.proofs.Common.{◌≡◌, ℕ, ◌<◌, ◌≤◌, length, take, set, sym, refl, ap, ◌∙◌, inl, inr, add-one, arith, length-set, length-take-le, take-suc-set}
+use Rattle.std.proofs.Common.{◌<◌, length, take, set, refl, ap, ◌∙◌, inl, inr, add-one, arith, length-set, length-take-le, take-suc-set}
 use Rattle.pile.proofs.base.Pile.push.Goals as goal
 
 pub returns : goal.returns
