@@ -1,7 +1,7 @@
 // The release question, over any watcher.
 ghost use Rattle.std.specs.Prelude.{◌≡◌, ℕ, ◌<◌, ◌≤◌};
 ghost use Rattle.model.specs.Sets.{Has};
-ghost use Rattle.logic.specs.Formulas.{release as releaseOf};
+ghost use Rattle.logic.specs.Formulas.{release as release_of};
 ghost use Rattle.logic.specs.Maximal.{SomeKeeps};
 ghost use Rattle.sheet.specs.Orders.{at};
 ghost use Rattle.sheet.specs.Books.{formula, model_of};
@@ -24,7 +24,7 @@ impl Sheet<'_> {
         kept: usize,
         watcher: &W,
     ) -> Result<usize, Refusal>
-        ensures { Asked self.old self.new (CauseRelease (model_of self.old) (W.Alphabet.known watcher.now) (W.Watcher.table watcher.now) freeing kept) (ReleaseForm freeing kept) (λ s. (s < (model_of self.old).states) × SomeKeeps (model_of self.old) (Has (at self.old.questions freeing).marks) (Has (at self.old.questions kept).marks) (W.Watcher.words watcher.now) s) (λ book. releaseOf (formula book freeing) (formula book kept) (W.Watcher.table watcher.now)) result }
+        ensures { Asked self.old self.new (CauseRelease (model_of self.old) (W.Alphabet.known watcher.now) (W.Watcher.table watcher.now) freeing kept) (ReleaseForm freeing kept) (λ s. (s < (model_of self.old).states) × SomeKeeps (model_of self.old) (Has (at self.old.questions freeing).marks) (Has (at self.old.questions kept).marks) (W.Watcher.words watcher.now) s) (λ book. release_of (formula book freeing) (formula book kept) (W.Watcher.table watcher.now)) result }
     {
         self.check_release(freeing, kept, watcher)?;
         let frees = self.questions.get(freeing).marks();

@@ -1,7 +1,7 @@
 // The until question, over any until language.
 ghost use Rattle.std.specs.Prelude.{◌≡◌, ℕ, ◌<◌, ◌≤◌, length, OnErr};
 ghost use Rattle.model.specs.Sets.{Has};
-ghost use Rattle.logic.specs.Formulas.{until as untilOf};
+ghost use Rattle.logic.specs.Formulas.{until as until_of};
 ghost use Rattle.logic.specs.Paths.{SomeGood};
 ghost use Rattle.sheet.specs.Orders.{at};
 ghost use Rattle.sheet.specs.Books.{formula, model_of};
@@ -25,7 +25,7 @@ impl Sheet<'_> {
         language: &L,
         work: &mut [u32],
     ) -> Result<usize, Refusal>
-        ensures asked { Asked self.old self.new (CauseUntil (model_of self.old) (told (L.Alphabet.known language.now) (L.UntilLanguage.symbols language.now) (L.UntilLanguage.rules language.now)) (length work.old) guard goal) (UntilForm guard goal) (λ s. (s < (model_of self.old).states) × SomeGood (model_of self.old) (Has (at self.old.questions guard).marks) (Has (at self.old.questions goal).marks) (L.UntilLanguage.words language.now) s) (λ book. untilOf (formula book guard) (formula book goal) (L.UntilLanguage.rules language.now)) result }
+        ensures asked { Asked self.old self.new (CauseUntil (model_of self.old) (told (L.Alphabet.known language.now) (L.UntilLanguage.symbols language.now) (L.UntilLanguage.rules language.now)) (length work.old) guard goal) (UntilForm guard goal) (λ s. (s < (model_of self.old).states) × SomeGood (model_of self.old) (Has (at self.old.questions guard).marks) (Has (at self.old.questions goal).marks) (L.UntilLanguage.words language.now) s) (λ book. until_of (formula book guard) (formula book goal) (L.UntilLanguage.rules language.now)) result }
         ensures work { OnErr result (work.new ≡ work.old) }
     {
         self.check_until(guard, goal, language, work.len())?;
