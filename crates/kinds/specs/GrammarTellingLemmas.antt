@@ -1,3 +1,4 @@
+-- Each rule of a grammar names what is there.
 use Rattle.std.specs.Prelude.{◌≡◌, true}
 use Rattle.std.proofs.Common.{subst, arith}
 use Rattle.model.specs.Relations.{Among}

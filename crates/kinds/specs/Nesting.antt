@@ -12,7 +12,7 @@ use Rattle.language.specs.declared.rule.Rule.{Rule}
 use Rattle.language.specs.declared.rule.Rule.TheVariants.{Empty, Lead, Pair}
 use Rattle.kinds.specs.declared.brackets.Brackets.{Brackets}
 use Rattle.kinds.specs.Passing.{marked_below}
-use Rattle.kinds.specs.BracketWords.{times, other_action, others_of, told, BracketWords}
+use Rattle.kinds.specs.BracketWords.{other_action, others_of, told, BracketWords}
 use Rattle.kinds.specs.Members.{among_map, among_mapped}
 use Rattle.kinds.specs.Passed.{passing_few, passing_among, among_passing, passing_alike}
 use Rattle.chart.proofs.Heights.{by_empty, by_lead, by_pair, known_append}

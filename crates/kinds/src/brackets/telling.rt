@@ -12,9 +12,9 @@ use language::{Alphabet, Rule, UntilLanguage};
 impl Alphabet for Brackets {
     ghost known = { λ b. b.actions };
 
-    ghost some_action = { first_of (Prim.search rules, Prim.grind (arith, Self.row.coded.inj)) };
+    ghost some_action = { Prim.search rules };
 
-    ghost few_actions = { first_of (Prim.search rules, Prim.grind (arith, Self.row.coded.inj)) };
+    ghost few_actions = { Prim.search rules };
 
     fn action_count(&self) -> u8 {
         self.actions
@@ -28,7 +28,7 @@ impl UntilLanguage for Brackets {
 
     ghost rules = { told };
 
-    ghost some_symbol = { first_of (Prim.search rules, Prim.grind (arith, Self.row.coded.inj)) };
+    ghost some_symbol = { Prim.search rules };
 
     ghost symbols_known = { λ b few short.
         let zero_one : 0 < 3 = omega arith in let one : 1 < 3 = omega arith in let two : 2 < 3 = omega arith in

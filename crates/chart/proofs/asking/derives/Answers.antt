@@ -10,8 +10,8 @@ returns g c =
     let l = c.args.language.now in
     let w = c.args.word.now in
     let rules = g.L.UntilLanguage.rules l in
-    let few : g.L.UntilLanguage.symbols l ≤ 16 = omega (arith, c.symbol-count.ensures, c.if-symbol-count-gt16.false) in
-    let short : length rules ≤ 128 = omega (arith, c.rule-count.ensures, c.if-rule-count-gt128.false) in
+    let few : g.L.UntilLanguage.symbols l ≤ 16 = omega (arith, c.symbol_count.ensures, c.if-symbol_count-gt16.false) in
+    let short : length rules ≤ 128 = omega (arith, c.rule_count.ensures, c.if-rule_count-gt128.false) in
     let facts = c.fill-chart.ensures (0, 0, length w) in
     let found : c.has.result ≡ true → Derives rules 0 w = λ is. derived_whole w rules (facts.0 (omega arith, subst (λ x. Has x (length w)) c.row.ensures (c.has.ensures.0 is))) in
     record {

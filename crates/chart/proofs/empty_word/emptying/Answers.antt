@@ -1,6 +1,6 @@
-use Rattle.std.proofs.Common.{◌≡◌, ℕ, ◌<◌, ◌≤◌, [], sym, refl, subst, arith}
+use Rattle.std.proofs.Common.{[], sym, refl, subst, arith}
 use mathlib.Core.Bool.{false≢true}
-use Rattle.model.specs.Sets.{Has, nothing}
+use Rattle.model.specs.Sets.{Has}
 use Rattle.model.proofs.Bits.{bit_none}
 use Rattle.model.proofs.Joins.{joined_none, joined_more, joined_like, joined_exact, joined_same, joined_from}
 use Rattle.language.specs.Derivations.{Derives}

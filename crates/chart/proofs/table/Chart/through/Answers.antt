@@ -8,4 +8,4 @@ pub loop-place-preserved : goal.loop-place-preserved
 loop-place-preserved c = through_more _ _ _ _ _ _ c.args.symbol c.in-Some.place c.in-Some.ensures.0 c.row.ensures c.in-Some.ensures.1 c.union-reached.ensures c.loop-place.invariant
 
 pub returns : goal.returns
-returns c = through_all _ _ _ _ _ c.in-default.ensures.0 c.loop-place.invariant
+returns c = through_all _ _ _ _ _ c.in_default.ensures.0 c.loop-place.invariant

@@ -4,31 +4,20 @@ use Rattle.kinds.specs.Rows.{fits, no_rule}
 use Rattle.kinds.specs.Fitting.{fits_from}
 use Rattle.kinds.proofs.grammar.Grammar.push_rule.Goals as goal
 
-pub invariant-of-self : goal.invariant-of-self
-invariant-of-self c =
+pub invariant_of-self : goal.invariant_of-self
+invariant_of-self c =
     let m = c.args.self.now in
-    let room = c.requires.room in (
-      m.some_symbol,
-      (
-        m.few_symbols,
-        (
-          m.some_action,
-          (
-            m.few_actions,
-            (
-              simp length-set m.all_rules,
-              (
-                omega arith,
-                (
-                  each_set (λ r. fits m.symbols m.actions r ≡ true) m.rules m.count c.args.rule no_rule (omega (arith, m.all_rules)) m.inside (fits_from _ _ c.args.rule c.requires.symbols c.requires.actions),
-                  (distinct_set m.rules m.count c.args.rule no_rule (omega (arith, m.all_rules)) m.distinct c.requires.absent, tt),
-                ),
-              ),
-            ),
-          ),
-        ),
-      ),
-    )
+    let room = c.requires.room in
+    record {
+      some_symbol = m.some_symbol;
+      few_symbols = m.few_symbols;
+      some_action = m.some_action;
+      few_actions = m.few_actions;
+      all_rules = simp length-set m.all_rules;
+      few_rules = omega arith;
+      inside = each_set (λ r. fits m.symbols m.actions r ≡ true) m.rules m.count c.args.rule no_rule (omega (arith, m.all_rules)) m.inside (fits_from _ _ c.args.rule c.requires.symbols c.requires.actions);
+      distinct = distinct_set m.rules m.count c.args.rule no_rule (omega (arith, m.all_rules)) m.distinct c.requires.absent;
+    }
 
 pub returns : goal.returns
 returns c =

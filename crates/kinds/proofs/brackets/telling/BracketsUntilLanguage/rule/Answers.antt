@@ -12,7 +12,7 @@ returns-in-Some c =
     let k = c.args.place - 4 in
     let past : 4 ≤ c.args.place = omega arith in
     let e = others_marked b c.others-others.result c.others-others.ensures.marks in
-    sym (told_later b c.args.place past ∙ nth_map_some (λ a. Lead 0 a 0) (others_of b) k c.in-Some.action (sym (ap (λ xs. slice_get xs k) e) ∙ sym c.marked-at.ensures ∙ c.in-Some.is))
+    sym (told_later b c.args.place past ∙ nth_map_some (λ a. Lead 0 a 0) (others_of b) k c.in-Some.action (sym (ap (λ xs. slice_get xs k) e) ∙ sym c.marked_at.ensures ∙ c.in-Some.is))
 
 pub returns-in-None : goal.returns-in-None
 returns-in-None c =
@@ -20,4 +20,4 @@ returns-in-None c =
     let k = c.args.place - 4 in
     let past : 4 ≤ c.args.place = omega arith in
     let e = others_marked b c.others-others.result c.others-others.ensures.marks in
-    sym (told_later b c.args.place past ∙ nth_map_none (λ a. Lead 0 a 0) (others_of b) k (sym (ap (λ xs. slice_get xs k) e) ∙ sym c.marked-at.ensures ∙ c.in-None.is))
+    sym (told_later b c.args.place past ∙ nth_map_none (λ a. Lead 0 a 0) (others_of b) k (sym (ap (λ xs. slice_get xs k) e) ∙ sym c.marked_at.ensures ∙ c.in-None.is))
