@@ -1,17 +1,16 @@
 -- The charts: one arrow for each edge and for each step of the table.
-use Rattle.std.proofs.Common.{◌≡◌, ℕ, ◌+◌, ◌*◌, ◌<◌, ◌≤◌, ◌⊎◌, List, length, get_or, Some, None, Option, unwrap_or, sym, refl, ap, ◌∙◌, subst, inl, inr, ⊎_elim, arith}
+use Rattle.std.proofs.Common.{◌≡◌, ℕ, ◌+◌, ◌<◌, ◌≤◌, List, length, get_or, Some, None, sym, refl, ap, ◌∙◌, subst, arith}
 use Rattle.std.specs.List.{slice_get}
 use Rattle.std.proofs.lemmas.Option.{slice_get-get_or}
 use Rattle.model.specs.declared.edge.Edge.{Edge}
-use Rattle.model.specs.declared.number_set.NumberSet.{NumberSet}
 use Rattle.model.specs.declared.model.Model.{Model}
 use Rattle.model.specs.Edges.{Inside, no_edge}
 use Rattle.model.specs.Models.{HasEdge, edges_of}
 use Rattle.model.specs.Relations.{Among, Joined, Upto, Exactly}
 use Rattle.model.proofs.Joins.{joined_more, joined_like, joined_exact, among_more, among_exact}
 use Rattle.language.specs.Tables.{Table, step, Complete}
-use Rattle.walks.proofs.Walks.{edge_inside, step_below}
-use Rattle.charts.specs.Arrows.{Shows, Into, Out, Back, BackFrom}
+use Rattle.walks.proofs.Walks.{edge_inside}
+use Rattle.charts.specs.Arrows.{Into, Out, Back, BackFrom}
 
 pub triple_is : (x : ℕ × ℕ × ℕ) (a b c : ℕ) → x.0 ≡ a → x.1 ≡ b → x.2 ≡ c → ◌≡◌ {A = ℕ × ℕ × ℕ} x (a, b, c)
 triple_is x a b c e f g = let P : ℕ → ℕ → ℕ → ℕ × ℕ × ℕ = λ k m n. (k, m, n) in ap (λ n. P n x.1 x.2) e ∙ ap (λ n. P a n x.2) f ∙ ap (λ n. P a b n) g

@@ -6,7 +6,6 @@ use Rattle.model.specs.Relations.{Exactly}
 use Rattle.model.specs.Models.{HasEdge}
 use Rattle.model.specs.Sets.{Has, nothing}
 use Rattle.language.specs.Tables.{Table, step, Complete}
-use Rattle.charts.specs.declared.arrows.Arrows.{Arrows}
 use Rattle.charts.specs.declared.charts.Charts.{Charts}
 
 -- the rows have the arrow

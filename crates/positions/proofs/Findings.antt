@@ -1,25 +1,23 @@
 -- Pairs that are found and laid on the pile.
-use Rattle.std.proofs.Common.{◌≡◌, ℕ, zero, suc, ◌+◌, ◌*◌, ◌^◌, ◌<◌, ◌≤◌, ◌⊎◌, List, [], ◌∷◌, ◌++◌, length, get_or, set, Ok, Err, Result, sym, refl, ap, ◌∙◌, subst, inl, inr, ⊎_elim, mul_comm, arith, length-append, MatchResult}
+use Rattle.std.proofs.Common.{◌≡◌, ℕ, suc, ◌*◌, ◌^◌, ◌<◌, ◌≤◌, ◌⊎◌, List, [], ◌∷◌, ◌++◌, length, get_or, set, Ok, Err, Result, sym, refl, ap, ◌∙◌, subst, inl, inr, ⊎_elim, mul_comm, arith, length-append, MatchResult}
 use native.Mathlib.Decide.{dec_lt, ℕ_discrete}
 use lib.Bits.{bit_or}
 use Rattle.model.specs.declared.refusal.Refusal.{Refusal}
 use Rattle.model.specs.Refusals.{Refuse, Accept, refusal}
-use Rattle.model.specs.declared.edge.Step.{Step}
 use Rattle.model.specs.declared.number_set.NumberSet.{NumberSet}
 use Rattle.model.specs.declared.model.Model.{Model}
-use Rattle.model.specs.Relations.{Joined, Exactly}
-use Rattle.model.specs.Models.{HasEdge}
+use Rattle.model.specs.Relations.{Joined}
 use Rattle.model.specs.Sets.{Has, nothing}
 use Rattle.model.proofs.Bits.{one_exact, or_joined}
 use Rattle.model.proofs.Joins.{joined_like, joined_both}
-use Rattle.language.specs.Tables.{Table, step}
+use Rattle.language.specs.Tables.{Table}
 use Rattle.pile.specs.declared.base.Pile.{Pile}
 use Rattle.pile.specs.Items.{items, room}
 use Rattle.walks.specs.Releases.{Forced, Bad, DoomedWithin}
 use Rattle.walks.proofs.Breaks.{doomed_more}
 use Rattle.positions.specs.declared.position.Position.{Position}
 use Rattle.positions.specs.Pairs.{pair, Holds, size}
-use Rattle.positions.specs.Searches.{On, Done, Sound, Roomy, Laid, Looked}
+use Rattle.positions.specs.Searches.{On, Sound, Roomy, Laid}
 use Rattle.positions.proofs.Sizes.{table_grows, table_same, holds_dec, size_few}
 use Rattle.positions.proofs.Marks.{pair_is, pair_added}
 

@@ -1,12 +1,10 @@
 -- Where the edges from a pair lead.
-use Rattle.std.proofs.Common.{◌≡◌, ℕ, ◌+◌, ◌*◌, ◌<◌, ◌≤◌, true, false, eqb, ◌≢◌, ◌⊎◌, List, length, get_or, set, Decides, sym, refl, ap, ◌∙◌, subst, inl, inr, ⊎_elim, arith}
+use Rattle.std.proofs.Common.{◌≡◌, ℕ, ◌<◌, List, length, get_or, set, sym, ap, subst, arith}
 use native.Mathlib.Decide.{ℕ_discrete}
 use Rattle.std.proofs.lemmas.List.{get_or-set_same, get_or-set_other}
-use Rattle.model.specs.declared.edge.Step.{Step}
 use Rattle.model.specs.declared.number_set.NumberSet.{NumberSet}
 use Rattle.model.specs.declared.model.Model.{Model}
 use Rattle.model.specs.Relations.{Exactly}
-use Rattle.model.specs.Models.{HasEdge}
 use Rattle.model.specs.Sets.{Has, nothing}
 use Rattle.model.proofs.Bits.{none_has}
 use Rattle.language.specs.Tables.{Table, step}

@@ -1,20 +1,16 @@
 -- Pairs that are looked at, one after another.
-use Rattle.std.proofs.Common.{◌≡◌, ℕ, ◌+◌, ◌*◌, ◌<◌, ◌≤◌, ◌⊎◌, List, [], ◌∷◌, ◌++◌, length, sym, refl, ap, ◌∙◌, subst, inl, inr, ⊎_elim, arith}
+use Rattle.std.proofs.Common.{◌≡◌, ℕ, ◌+◌, ◌<◌, ◌≤◌, ◌⊎◌, List, sym, refl, ◌∙◌, subst, inl, inr, ⊎_elim, arith}
 use native.Mathlib.Decide.{dec_lt, ℕ_discrete}
-use Rattle.model.specs.declared.edge.Step.{Step}
 use Rattle.model.specs.declared.number_set.NumberSet.{NumberSet}
 use Rattle.model.specs.declared.model.Model.{Model}
 use Rattle.model.specs.Relations.{Joined, Upto}
-use Rattle.model.specs.Models.{HasEdge}
 use Rattle.model.specs.Sets.{Has}
-use Rattle.language.specs.Tables.{Table, step}
-use Rattle.logic.specs.Paths.{edge}
+use Rattle.language.specs.Tables.{Table}
 use Rattle.pile.specs.declared.base.Pile.{Pile}
-use Rattle.pile.specs.Items.{items, room}
-use Rattle.walks.specs.Releases.{Forced, Bad}
+use Rattle.walks.specs.Releases.{Forced}
 use Rattle.positions.specs.declared.position.Position.{Position}
-use Rattle.positions.specs.Pairs.{pair, Holds, InRow, size}
-use Rattle.positions.specs.Searches.{On, Done, Sound, Roomy, Laid, Looked, Led, Leaves}
+use Rattle.positions.specs.Pairs.{Holds}
+use Rattle.positions.specs.Searches.{Done, Roomy, Laid, Looked, Led, Leaves}
 use Rattle.positions.proofs.Findings.{roomy_laid, sound_add}
 
 module _ (m : Model) (t : Table) (F : ℕ → Type 0) where

@@ -1,5 +1,5 @@
 -- More pairs are a larger count, and no larger a count the same pairs.
-use Rattle.std.proofs.Common.{◌≡◌, ℕ, zero, suc, ◌+◌, ◌*◌, ◌/◌, ◌%◌, ◌^◌, ◌<◌, ◌≤◌, List, get_or, sym, refl, ap, ◌∙◌, subst, le_of_eq, mul-le-mul_right, suc-mul, add_comm, div-one, add-one, one-add, arith}
+use Rattle.std.proofs.Common.{◌≡◌, ℕ, zero, suc, ◌+◌, ◌*◌, ◌/◌, ◌%◌, ◌^◌, ◌<◌, ◌≤◌, List, get_or, sym, ap, ◌∙◌, subst, le_of_eq, mul-le-mul_right, suc-mul, add_comm, div-one, add-one, one-add, arith}
 use mathlib.Core.Path.{transport}
 use native.Mathlib.Nat.{two-pow-succ}
 use native.Mathlib.Decide.{dec_lt, ℕ_discrete}

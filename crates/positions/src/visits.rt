@@ -24,8 +24,8 @@ fn is_led_by<W: Watcher>(
     position: Position,
     action: u8,
 ) -> bool
-    requires { (Charted model.now (table watcher.now) charts.now) × ((position.state < model.now.states) × ((position.watch < (table watcher.now).states) × (action < model.now.actions))) }
-    ensures { Decides result (LedBy model.now (table watcher.now) found.now.rows (pair position) action) }
+    requires { (Charted model.now (W.Watcher.table watcher.now) charts.now) × ((position.state < model.now.states) × ((position.watch < (W.Watcher.table watcher.now).states) × (action < model.now.actions))) }
+    ensures { Decides result (LedBy model.now (W.Watcher.table watcher.now) found.now.rows (pair position) action) }
 {
     let ends = charts.out.row(action, position.state);
     let next = step_of(watcher, position.watch, action);
@@ -41,9 +41,9 @@ fn is_led<W: Watcher>(
     progress: &mut Progress,
     position: Position,
 ) -> bool
-    requires { (Charted model.now (table watcher.now) charts.now) × ((Noted model.now (table watcher.now) found.now.rows progress.old.actions) × ((position.state < model.now.states) × (position.watch < (table watcher.now).states))) }
-    ensures noted { Noted model.now (table watcher.now) found.now.rows progress.new.actions }
-    ensures led { Decides result (Led model.now (table watcher.now) found.now.rows (pair position)) }
+    requires { (Charted model.now (W.Watcher.table watcher.now) charts.now) × ((Noted model.now (W.Watcher.table watcher.now) found.now.rows progress.old.actions) × ((position.state < model.now.states) × (position.watch < (W.Watcher.table watcher.now).states))) }
+    ensures noted { Noted model.now (W.Watcher.table watcher.now) found.now.rows progress.new.actions }
+    ensures led { Decides result (Led model.now (W.Watcher.table watcher.now) found.now.rows (pair position)) }
 {
     let mut action = progress.get(position);
     while action < model.actions() {
@@ -76,10 +76,10 @@ fn visit<W: Watcher>(
     pile: &mut Pile<Position>,
     position: Position,
 )
-    requires noted { Noted model.now (table watcher.now) found.old.rows progress.old.actions }
-    requires given { (Charted model.now (table watcher.now) charts.now) × ((Roomy model.now (table watcher.now).states found.old.rows pile.old) × ((Leaves model.now position.state) × (position.watch < (table watcher.now).states))) }
-    ensures noted { Noted model.now (table watcher.now) found.new.rows progress.new.actions }
-    ensures looked { Looked model.now (table watcher.now) (Has freeing) (λ p. p ≡ pair position) found.old.rows pile.old found.new.rows pile.new }
+    requires noted { Noted model.now (W.Watcher.table watcher.now) found.old.rows progress.old.actions }
+    requires given { (Charted model.now (W.Watcher.table watcher.now) charts.now) × ((Roomy model.now (W.Watcher.table watcher.now).states found.old.rows pile.old) × ((Leaves model.now position.state) × (position.watch < (W.Watcher.table watcher.now).states))) }
+    ensures noted { Noted model.now (W.Watcher.table watcher.now) found.new.rows progress.new.actions }
+    ensures looked { Looked model.now (W.Watcher.table watcher.now) (Has freeing) (λ p. p ≡ pair position) found.old.rows pile.old found.new.rows pile.new }
 {
     if freeing.has(position.state) {
         return;
@@ -104,10 +104,10 @@ fn visit_states<W: Watcher>(
     watch: u8,
     states: NumberSet,
 )
-    requires noted { Noted model.now (table watcher.now) found.old.rows progress.old.actions }
-    requires given { (Charted model.now (table watcher.now) charts.now) × ((Roomy model.now (table watcher.now).states found.old.rows pile.old) × ((watch < (table watcher.now).states) × (((s : ℕ) → Has states s → Leaves model.now s)))) }
-    ensures noted { Noted model.now (table watcher.now) found.new.rows progress.new.actions }
-    ensures looked { Looked model.now (table watcher.now) (Has freeing) (InRow watch (Has states)) found.old.rows pile.old found.new.rows pile.new }
+    requires noted { Noted model.now (W.Watcher.table watcher.now) found.old.rows progress.old.actions }
+    requires given { (Charted model.now (W.Watcher.table watcher.now) charts.now) × ((Roomy model.now (W.Watcher.table watcher.now).states found.old.rows pile.old) × ((watch < (W.Watcher.table watcher.now).states) × (((s : ℕ) → Has states s → Leaves model.now s)))) }
+    ensures noted { Noted model.now (W.Watcher.table watcher.now) found.new.rows progress.new.actions }
+    ensures looked { Looked model.now (W.Watcher.table watcher.now) (Has freeing) (InRow watch (Has states)) found.old.rows pile.old found.new.rows pile.new }
 {
     let mut rest = states;
     while let Some(state) = rest.take_last() {
@@ -136,10 +136,10 @@ fn visit_back<W: Watcher>(
     position: Position,
     action: u8,
 )
-    requires noted { Noted model.now (table watcher.now) found.old.rows progress.old.actions }
-    requires given { (Charted model.now (table watcher.now) charts.now) × ((Roomy model.now (table watcher.now).states found.old.rows pile.old) × ((action < model.now.actions) × ((position.state < 32) × (position.watch < 32)))) }
-    ensures noted { Noted model.now (table watcher.now) found.new.rows progress.new.actions }
-    ensures looked { Looked model.now (table watcher.now) (Has freeing) (BackBy model.now (table watcher.now) (pair position) action) found.old.rows pile.old found.new.rows pile.new }
+    requires noted { Noted model.now (W.Watcher.table watcher.now) found.old.rows progress.old.actions }
+    requires given { (Charted model.now (W.Watcher.table watcher.now) charts.now) × ((Roomy model.now (W.Watcher.table watcher.now).states found.old.rows pile.old) × ((action < model.now.actions) × ((position.state < 32) × (position.watch < 32)))) }
+    ensures noted { Noted model.now (W.Watcher.table watcher.now) found.new.rows progress.new.actions }
+    ensures looked { Looked model.now (W.Watcher.table watcher.now) (Has freeing) (BackBy model.now (W.Watcher.table watcher.now) (pair position) action) found.old.rows pile.old found.new.rows pile.new }
 {
     let states = charts.into.row(action, position.state);
     let mut rest = charts.back.row(action, position.watch);
@@ -161,10 +161,10 @@ pub fn expand<W: Watcher>(
     pile: &mut Pile<Position>,
     position: Position,
 )
-    requires noted { Noted model.now (table watcher.now) found.old.rows progress.old.actions }
-    requires given { (Charted model.now (table watcher.now) charts.now) × ((Roomy model.now (table watcher.now).states found.old.rows pile.old) × ((position.state < 32) × (position.watch < 32))) }
-    ensures noted { Noted model.now (table watcher.now) found.new.rows progress.new.actions }
-    ensures looked { Looked model.now (table watcher.now) (Has freeing) (Upto (BackBy model.now (table watcher.now) (pair position)) model.now.actions) found.old.rows pile.old found.new.rows pile.new }
+    requires noted { Noted model.now (W.Watcher.table watcher.now) found.old.rows progress.old.actions }
+    requires given { (Charted model.now (W.Watcher.table watcher.now) charts.now) × ((Roomy model.now (W.Watcher.table watcher.now).states found.old.rows pile.old) × ((position.state < 32) × (position.watch < 32))) }
+    ensures noted { Noted model.now (W.Watcher.table watcher.now) found.new.rows progress.new.actions }
+    ensures looked { Looked model.now (W.Watcher.table watcher.now) (Has freeing) (Upto (BackBy model.now (W.Watcher.table watcher.now) (pair position)) model.now.actions) found.old.rows pile.old found.new.rows pile.new }
 {
     for action in 0..model.actions() {
         visit_back(

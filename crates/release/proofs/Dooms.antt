@@ -1,21 +1,20 @@
 -- The search from its first pairs to its end.
-use Rattle.std.proofs.Common.{◌≡◌, ℕ, ◌+◌, ◌-◌, ◌*◌, ◌<◌, ◌≤◌, true, ◌⊎◌, List, [], ◌∷◌, ◌++◌, length, sym, refl, ap, ◌∙◌, subst, inl, inr, ⊎_elim, arith, length-append}
+use Rattle.std.proofs.Common.{◌≡◌, ℕ, ◌+◌, ◌-◌, ◌*◌, ◌<◌, ◌≤◌, true, ◌⊎◌, List, [], ◌∷◌, ◌++◌, length, sym, refl, ap, subst, inl, inr, ⊎_elim, arith, length-append}
 use native.Mathlib.Decide.{ℕ_discrete}
 use Rattle.std.proofs.lemmas.Nat.{mul-le}
 use Rattle.model.specs.declared.edge.Step.{Step}
 use Rattle.model.specs.declared.number_set.NumberSet.{NumberSet}
 use Rattle.model.specs.declared.model.Model.{Model}
-use Rattle.model.specs.Relations.{Joined, Exactly, Upto}
+use Rattle.model.specs.Relations.{Exactly, Upto}
 use Rattle.model.specs.Models.{HasEdge, edges_of}
-use Rattle.model.specs.Sets.{Has, nothing}
+use Rattle.model.specs.Sets.{Has}
 use Rattle.model.proofs.Bits.{bit_none}
 use Rattle.language.specs.Words.{Word}
 use Rattle.language.specs.Tables.{Table, step, Accepts, Complete}
 use Rattle.logic.specs.Paths.{edge}
-use Rattle.logic.specs.Maximal.{Maximal, BreaksAt, Keeps, SomeKeeps}
 use Rattle.pile.specs.declared.base.Pile.{Pile}
 use Rattle.pile.specs.Items.{items, room}
-use Rattle.walks.specs.Releases.{MarkedFrom, Forced, Bad}
+use Rattle.walks.specs.Releases.{Forced, Bad}
 use Rattle.walks.proofs.Breaks.{doomed_breaks, breaks_not_keeps}
 use Rattle.walks.proofs.Walks.{seek, edge_inside, kept_outside}
 use Rattle.positions.specs.declared.position.Position.{Position}

@@ -39,8 +39,8 @@ fn doom_marked<W: Watcher>(
     pile: &mut Pile<Position>,
     states: NumberSet,
 )
-    requires { ((table watcher.now).states ≤ 32) × ((((s : ℕ) → Has states s → s < model.now.states)) × (Begun model.now (table watcher.now) (Has states) 0 found.old.rows pile.old)) }
-    ensures { Begun model.now (table watcher.now) (Has states) (table watcher.now).states found.new.rows pile.new }
+    requires { ((W.Watcher.table watcher.now).states ≤ 32) × ((((s : ℕ) → Has states s → s < model.now.states)) × (Begun model.now (W.Watcher.table watcher.now) (Has states) 0 found.old.rows pile.old)) }
+    ensures { Begun model.now (W.Watcher.table watcher.now) (Has states) (W.Watcher.table watcher.now).states found.new.rows pile.new }
 {
     let watches = watcher.state_count() as u8;
     for watch in 0..watches {
@@ -59,8 +59,8 @@ pub fn doomed<W: Watcher>(
     kept: NumberSet,
     waiting: &mut [Position],
 ) -> Positions
-    requires { ((table watcher.now).states ≤ 32) × ((W.Alphabet.known watcher.now ≡ model.now.actions) × (model.now.states * (table watcher.now).states ≤ length waiting.old)) }
-    ensures { Doomed model.now (table watcher.now) (Has freeing) (Has kept) result.rows }
+    requires { ((W.Watcher.table watcher.now).states ≤ 32) × ((W.Alphabet.known watcher.now ≡ model.now.actions) × (model.now.states * (W.Watcher.table watcher.now).states ≤ length waiting.old)) }
+    ensures { Doomed model.now (W.Watcher.table watcher.now) (Has freeing) (Has kept) result.rows }
 {
     let charts = Charts::of(watcher, model);
     let mut found = Positions::none();
@@ -96,9 +96,9 @@ pub fn keeping<W: Watcher>(
     freeing: NumberSet,
     kept: NumberSet,
 ) -> NumberSet
-    requires { ((table watcher.now).states ≤ 32) × (W.Alphabet.known watcher.now ≡ model.now.actions) }
-    ensures accepted { Released model.now (Has freeing) (Has kept) (Accepts (table watcher.now)) (model.now.states * (table watcher.now).states) result }
-    ensures words { Released model.now (Has freeing) (Has kept) (words watcher.now) (model.now.states * (table watcher.now).states) result }
+    requires { ((W.Watcher.table watcher.now).states ≤ 32) × (W.Alphabet.known watcher.now ≡ model.now.actions) }
+    ensures accepted { Released model.now (Has freeing) (Has kept) (Accepts (W.Watcher.table watcher.now)) (model.now.states * (W.Watcher.table watcher.now).states) result }
+    ensures words { Released model.now (Has freeing) (Has kept) (W.Watcher.words watcher.now) (model.now.states * (W.Watcher.table watcher.now).states) result }
 {
     let mut waiting = [Position { state: 0, watch: 0 }; 1024];
     let found = doomed(watcher, model, freeing, kept, &mut waiting);

@@ -1,13 +1,12 @@
 -- A doomed pair: every maximal path breaks the release.
-use Rattle.std.proofs.Common.{◌≡◌, ℕ, zero, suc, ◌+◌, ◌-◌, ◌*◌, ◌<◌, ◌≤◌, true, ◌⊎◌, List, [], ◌∷◌, length, take, sym, refl, ap, ◌∙◌, subst, inl, inr, ⊎_elim, suc-le-suc, zero-le, arith}
-use Rattle.model.specs.declared.edge.Edge.{Edge}
+use Rattle.std.proofs.Common.{◌≡◌, ℕ, zero, suc, ◌<◌, ◌≤◌, true, [], ◌∷◌, sym, refl, subst, inl, inr, ⊎_elim, suc-le-suc, arith}
 use Rattle.model.specs.declared.edge.Step.{Step}
 use Rattle.model.specs.declared.model.Model.{Model}
-use Rattle.model.specs.Models.{HasEdge, edges_of}
-use Rattle.language.specs.Tables.{Table, step, run, Complete}
-use Rattle.logic.specs.Paths.{edge, Chain, end, word}
-use Rattle.logic.specs.Maximal.{Maximal, stopped, endless, Moment, before, Dead, first, Keeps, BreaksAt}
-use Rattle.walks.specs.Releases.{MarkedFrom, Forced, Bad, DoomedWithin}
+use Rattle.model.specs.Models.{HasEdge}
+use Rattle.language.specs.Tables.{Table, step, run}
+use Rattle.logic.specs.Paths.{edge, end, word}
+use Rattle.logic.specs.Maximal.{Maximal, stopped, endless, Moment, before, Dead, Keeps, BreaksAt}
+use Rattle.walks.specs.Releases.{MarkedFrom, Bad, DoomedWithin}
 
 -- a maximal path has no step, or a first one and a maximal path after it
 pub data First {model : Model} {s : ℕ} (π : Maximal model s) : Type 0 where

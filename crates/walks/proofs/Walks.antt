@@ -1,7 +1,7 @@
 -- From a pair that is not doomed a maximal path that keeps the release.
-use Rattle.std.proofs.Common.{◌≡◌, ℕ, zero, suc, ◌+◌, ◌-◌, ◌*◌, ◌/◌, ◌%◌, ◌<◌, ◌≤◌, Bool, true, ◌⊎◌, List, [], ◌∷◌, length, take, Some, None, unwrap_or, sym, refl, ap, ◌∙◌, subst, inl, inr, ⊎_elim, suc-le-suc, zero-le, mul-le-mul_right, suc-mul, suc-add, zero-add, arith}
+use Rattle.std.proofs.Common.{◌≡◌, ℕ, zero, suc, ◌+◌, ◌-◌, ◌*◌, ◌/◌, ◌%◌, ◌<◌, ◌≤◌, true, ◌⊎◌, List, [], ◌∷◌, length, take, Some, unwrap_or, sym, refl, ap, ◌∙◌, subst, inl, inr, ⊎_elim, mul-le-mul_right, suc-mul, suc-add, zero-add, arith}
 use lib.Arith.{digits_mod, digits_div}
-use native.Mathlib.Decide.{dec_lt, dec_le, ℕ_discrete}
+use native.Mathlib.Decide.{dec_le, ℕ_discrete}
 use Rattle.std.specs.List.{slice_get}
 use Rattle.model.specs.declared.edge.Edge.{Edge}
 use Rattle.model.specs.declared.edge.Step.{Step}
@@ -12,8 +12,8 @@ use Rattle.model.specs.Edges.{Inside, no_edge}
 use Rattle.model.proofs.Tables.{among_place}
 use Rattle.language.specs.Tables.{Table, step, run, Complete}
 use Rattle.logic.specs.Paths.{edge, Chain, end, word}
-use Rattle.logic.specs.Maximal.{Maximal, stopped, endless, Moment, before, Dead, first, Keeps, BreaksAt, SomeKeeps}
-use Rattle.walks.specs.Releases.{MarkedFrom, Forced, Bad, DoomedWithin}
+use Rattle.logic.specs.Maximal.{Maximal, stopped, endless, Dead, first, Keeps, SomeKeeps}
+use Rattle.walks.specs.Releases.{MarkedFrom, Forced, Bad}
 use Rattle.walks.proofs.Pigeons.{find, pigeon}
 
 abbrev step_of_edge : Edge → Step

@@ -32,8 +32,8 @@ fn arrows_out(model: &Model) -> Arrows
 
 // The watcher state after a step that is there.
 pub fn step_of<W: Watcher>(watcher: &W, watch: u8, action: u8) -> u8
-    requires { (table watcher.now).next watch action ≢ None }
-    ensures { result ≡ step (table watcher.now) watch action }
+    requires { (W.Watcher.table watcher.now).next watch action ≢ None }
+    ensures { result ≡ step (W.Watcher.table watcher.now) watch action }
 {
     match watcher.next(watch, action) {
         Some(next) => next,
@@ -43,8 +43,8 @@ pub fn step_of<W: Watcher>(watcher: &W, watch: u8, action: u8) -> u8
 
 // Adds the watcher's steps from one of its states, from end to start.
 fn add_steps<W: Watcher>(watcher: &W, actions: u8, arrows: &mut Arrows, watch: u8)
-    requires { (actions ≤ 16) × ((Complete actions (table watcher.now)) × (((table watcher.now).states ≤ 32) × (watch < (table watcher.now).states))) }
-    ensures { Joined (Shows arrows.old.rows) (Shows arrows.new.rows) (BackFrom actions (table watcher.now) watch) }
+    requires { (actions ≤ 16) × ((Complete actions (W.Watcher.table watcher.now)) × (((W.Watcher.table watcher.now).states ≤ 32) × (watch < (W.Watcher.table watcher.now).states))) }
+    ensures { Joined (Shows arrows.old.rows) (Shows arrows.new.rows) (BackFrom actions (W.Watcher.table watcher.now) watch) }
 {
     for action in 0..actions {
         arrows.add(action, step_of(watcher, watch, action), watch);
@@ -53,8 +53,8 @@ fn add_steps<W: Watcher>(watcher: &W, actions: u8, arrows: &mut Arrows, watch: u
 
 // The watcher's steps, from end to start.
 fn arrows_back<W: Watcher>(watcher: &W, actions: u8) -> Arrows
-    requires { (actions ≤ 16) × ((Complete actions (table watcher.now)) × ((table watcher.now).states ≤ 32)) }
-    ensures { Exactly (Shows result.rows) (Back actions (table watcher.now)) }
+    requires { (actions ≤ 16) × ((Complete actions (W.Watcher.table watcher.now)) × ((W.Watcher.table watcher.now).states ≤ 32)) }
+    ensures { Exactly (Shows result.rows) (Back actions (W.Watcher.table watcher.now)) }
 {
     let mut arrows = Arrows::none();
     let watches = watcher.state_count() as u8;
@@ -67,8 +67,8 @@ fn arrows_back<W: Watcher>(watcher: &W, actions: u8) -> Arrows
 impl Charts {
     // The charts of a watcher and a model with the same actions.
     pub fn of<W: Watcher>(watcher: &W, model: &Model) -> Charts
-        requires { ((table watcher.now).states ≤ 32) × (W.Alphabet.known watcher.now ≡ model.now.actions) }
-        ensures { Charted model.now (table watcher.now) result }
+        requires { ((W.Watcher.table watcher.now).states ≤ 32) × (W.Alphabet.known watcher.now ≡ model.now.actions) }
+        ensures { Charted model.now (W.Watcher.table watcher.now) result }
     {
         Charts {
             into: arrows_into(model),

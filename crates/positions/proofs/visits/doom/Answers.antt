@@ -1,4 +1,4 @@
-use Rattle.std.proofs.Common.{◌≡◌, refl, arith}
+use Rattle.std.proofs.Common.{arith}
 use Rattle.positions.proofs.Findings.{laid_one, push_sure}
 use Rattle.positions.proofs.visits.doom.Goals as goal
 

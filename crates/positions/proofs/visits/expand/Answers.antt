@@ -1,4 +1,4 @@
-use Rattle.std.proofs.Common.{◌≡◌, ℕ, sym, refl, ap, ◌∙◌, subst, arith}
+use Rattle.std.proofs.Common.{arith}
 use Rattle.model.specs.Sets.{Has}
 use Rattle.positions.specs.Pairs.{pair}
 use Rattle.positions.specs.Searches.{BackBy}
@@ -9,8 +9,8 @@ pub loop-action-init : goal.loop-action-init
 loop-action-init g c =
     (looked_same c.args.model.now (g.W.Watcher.table c.args.watcher.now) (Has c.args.freeing) c.requires.given.1.0 (λ p v f. absurd (omega (arith, v.1))), c.requires.noted)
 
-pub visit-back-requires : goal.visit-back-requires
-visit-back-requires g c =
+pub visit_back-requires : goal.visit_back-requires
+visit_back-requires g c =
     let inv = c.loop-action.invariant in
     record { noted = inv.1; given = (c.requires.given.0, (inv.0.roomy, (omega (arith, c.loop-action-test.true, c.actions-action-end.ensures), c.requires.given.1.1))) }
 
@@ -18,7 +18,7 @@ pub loop-action-preserved : goal.loop-action-preserved
 loop-action-preserved g c =
     let m = c.args.model.now in
     let t = g.W.Watcher.table c.args.watcher.now in
-    (looked_more m t (Has c.args.freeing) (BackBy m t (pair c.args.position)) c.loop-action.action c.loop-action.invariant.0 c.visit-back.ensures.looked, c.visit-back.ensures.noted)
+    (looked_more m t (Has c.args.freeing) (BackBy m t (pair c.args.position)) c.loop-action.action c.loop-action.invariant.0 c.visit_back.ensures.looked, c.visit_back.ensures.noted)
 
 pub returns : goal.returns
 returns g c =

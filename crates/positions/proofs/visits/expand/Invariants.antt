@@ -1,4 +1,3 @@
-use Rattle.std.proofs.Common.{◌≡◌, ℕ}
 use Rattle.model.specs.Relations.{Upto}
 use Rattle.model.specs.Sets.{Has}
 use Rattle.positions.specs.Pairs.{pair}

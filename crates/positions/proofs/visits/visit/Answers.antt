@@ -1,4 +1,4 @@
-use Rattle.std.proofs.Common.{◌≡◌, ℕ, ◌<◌, sym, refl, ap, ◌∙◌, subst, arith}
+use Rattle.std.proofs.Common.{refl, arith}
 use borrow.Author.Tests.{clash}
 use Rattle.model.specs.Sets.{Has}
 use Rattle.walks.proofs.Walks.{edge_inside}
@@ -20,8 +20,8 @@ returns-then-has-2 g c = record {
   looked = looked_found c.args.model.now (g.W.Watcher.table c.args.watcher.now) (Has c.args.freeing) (pair c.args.position) c.requires.given.1.0 (c.if-has-2.ensures.0 refl);
 }
 
-pub is-led-requires : goal.is-led-requires
-is-led-requires g c =
+pub is_led-requires : goal.is_led-requires
+is_led-requires g c =
     let leaves = c.requires.given.1.1.0 in
     (c.requires.given.0, (c.requires.noted, ((edge_inside c.args.model.now _ leaves.1).0, c.requires.given.1.1.1)))
 
@@ -39,22 +39,22 @@ doom-requires g c =
       ),
     )
 
-pub returns-then-is-led : goal.returns-then-is-led
-returns-then-is-led g c =
+pub returns-then-is_led : goal.returns-then-is_led
+returns-then-is_led g c =
     let m = c.args.model.now in
     let t = g.W.Watcher.table c.args.watcher.now in
     let leaves = c.requires.given.1.1.0 in
     record {
-      noted = noted_keeps m t c.args.found.now.rows c.doom.new.found.rows c.is-led.new.progress.actions c.doom.ensures.found.keeps c.is-led.ensures.noted;
+      noted = noted_keeps m t c.args.found.now.rows c.doom.new.found.rows c.is_led.new.progress.actions c.doom.ensures.found.keeps c.is_led.ensures.noted;
       looked = looked_led m t (Has c.args.freeing) (pair c.args.position) c.requires.given.1.0 c.requires.given.0.small (edge_inside m _ leaves.1).0 c.requires.given.1.1.1
-          (λ f. clash (c.if-has.ensures.1 f)) leaves (c.if-is-led.ensures.led.0 refl) c.doom.ensures;
+          (λ f. clash (c.if-has.ensures.1 f)) leaves (c.if-is_led.ensures.led.0 refl) c.doom.ensures;
     }
 
-pub returns-else-is-led : goal.returns-else-is-led
-returns-else-is-led g c =
+pub returns-else-is_led : goal.returns-else-is_led
+returns-else-is_led g c =
     let m = c.args.model.now in
     let t = g.W.Watcher.table c.args.watcher.now in
     record {
-      noted = c.is-led.ensures.noted;
-      looked = looked_unled m t (Has c.args.freeing) (pair c.args.position) c.requires.given.1.0 (λ l. clash (c.if-is-led.ensures.led.1 l));
+      noted = c.is_led.ensures.noted;
+      looked = looked_unled m t (Has c.args.freeing) (pair c.args.position) c.requires.given.1.0 (λ l. clash (c.if-is_led.ensures.led.1 l));
     }

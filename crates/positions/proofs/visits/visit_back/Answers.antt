@@ -1,4 +1,4 @@
-use Rattle.std.proofs.Common.{◌≡◌, ℕ, sym, refl, ap, ◌∙◌, subst, arith}
+use Rattle.std.proofs.Common.{refl, subst}
 use Rattle.model.specs.declared.number_set.NumberSet.{NumberSet}
 use Rattle.model.specs.Sets.{Has}
 use Rattle.model.proofs.Bits.{bit_none}
@@ -11,8 +11,8 @@ pub loop-watch-init : goal.loop-watch-init
 loop-watch-init g c =
     (looked_same c.args.model.now (g.W.Watcher.table c.args.watcher.now) (Has c.args.freeing) c.requires.given.1.0 (λ p v f. absurd (v.2 v.1)), c.requires.noted, λ q h. h)
 
-pub visit-states-requires : goal.visit-states-requires
-visit-states-requires g c =
+pub visit_states-requires : goal.visit_states-requires
+visit_states-requires g c =
     let m = c.args.model.now in
     let t = g.W.Watcher.table c.args.watcher.now in
     let q = c.in-Some.watch in
@@ -28,8 +28,8 @@ loop-watch-preserved g c =
     let q = c.in-Some.watch in
     let E = c.in-Some.ensures in
     let inv = c.loop-watch.invariant in (
-      looked_taken c.args.model.now (g.W.Watcher.table c.args.watcher.now) (Has c.args.freeing) (λ k p. InRow k (Has c.row-states.result) p) c.row-rest.result c.loop-watch.rest c.take-last.new.self q E.1 inv.0 c.visit-states.ensures.looked,
-      c.visit-states.ensures.noted,
+      looked_taken c.args.model.now (g.W.Watcher.table c.args.watcher.now) (Has c.args.freeing) (λ k p. InRow k (Has c.row-states.result) p) c.row-rest.result c.loop-watch.rest c.take_last.new.self q E.1 inv.0 c.visit_states.ensures.looked,
+      c.visit_states.ensures.noted,
       λ u h. inv.2 u (E.1.keeps u h),
     )
 
@@ -38,7 +38,7 @@ returns g c =
     let m = c.args.model.now in
     let t = g.W.Watcher.table c.args.watcher.now in
     let inv = c.loop-watch.invariant in
-    let empty = c.in-default.ensures.0 in
+    let empty = c.in_default.ensures.0 in
     let a = c.args.action in
     let starts = into_row m t c.args.charts.now c.requires.given.0 a c.args.position.state c.row-states.result c.row-states.ensures in
     let steps = back_row m t c.args.charts.now c.requires.given.0 a c.args.position.watch c.row-rest.result c.row-rest.ensures in

@@ -1,4 +1,4 @@
-use Rattle.std.proofs.Common.{◌≡◌, ℕ, sym, refl, ap, ◌∙◌, subst, arith}
+use Rattle.std.proofs.Common.{◌≡◌, refl, subst}
 use Rattle.model.specs.declared.number_set.NumberSet.{NumberSet}
 use Rattle.model.specs.Sets.{Has}
 use Rattle.model.proofs.Bits.{bit_none}
@@ -22,7 +22,7 @@ loop-state-preserved g c =
     let s = c.in-Some.state in
     let E = c.in-Some.ensures in
     let inv = c.loop-state.invariant in (
-      looked_taken c.args.model.now (g.W.Watcher.table c.args.watcher.now) (Has c.args.freeing) (λ k p. p ≡ (k, c.args.watch)) c.args.states c.loop-state.rest c.take-last.new.self s E.1 inv.0 c.visit.ensures.looked,
+      looked_taken c.args.model.now (g.W.Watcher.table c.args.watcher.now) (Has c.args.freeing) (λ k p. p ≡ (k, c.args.watch)) c.args.states c.loop-state.rest c.take_last.new.self s E.1 inv.0 c.visit.ensures.looked,
       c.visit.ensures.noted,
       λ u h. inv.2 u (E.1.keeps u h),
     )
@@ -30,7 +30,7 @@ loop-state-preserved g c =
 pub returns : goal.returns
 returns g c =
     let inv = c.loop-state.invariant in
-    let empty = c.in-default.ensures.0 in
+    let empty = c.in_default.ensures.0 in
     record {
       noted = inv.1;
       looked = looked_like c.args.model.now (g.W.Watcher.table c.args.watcher.now) (Has c.args.freeing)

@@ -1,4 +1,4 @@
-use Rattle.std.proofs.Common.{◌≡◌, ℕ, ◌+◌, ◌<◌, ◌≤◌, sym, refl, ap, ◌∙◌, subst, arith}
+use Rattle.std.proofs.Common.{◌≡◌, ◌+◌, ◌<◌, sym, ◌∙◌, subst, arith}
 use mathlib.Core.Bool.{false≢true}
 use Rattle.model.specs.Sets.{Has}
 use Rattle.pile.specs.declared.base.Pile.{Pile}
@@ -8,14 +8,14 @@ use Rattle.positions.specs.Searches.{Roomy}
 use Rattle.release.specs.Beginnings.{Begun}
 use Rattle.release.proofs.Dooms.{begun_not, begun_here}
 use Rattle.release.proofs.search.doom_marked.Goals as goal
-use Rattle.release.proofs.search.doom_marked.Goals.{then-is-marked, else-is-marked}
+use Rattle.release.proofs.search.doom_marked.Goals.{then-is_marked, else-is_marked}
 
 pub loop-watch-init : goal.loop-watch-init
 loop-watch-init g c = c.requires.1.1
 
-pub doom-states-requires : goal.doom-states-requires
-doom-states-requires g c =
-    let e = c.state-count-watches.ensures in
+pub doom_states-requires : goal.doom_states-requires
+doom_states-requires g c =
+    let e = c.state_count-watches.ensures in
     let inv = c.loop-watch.invariant in (
       subst (λ n. Roomy c.args.model.now n c.loop-watch.found.rows c.loop-watch.pile) (sym e) inv.roomy,
       (
@@ -32,17 +32,17 @@ loop-watch-preserved g c =
     let inv = c.loop-watch.invariant in
     let m = c.args.model.now in
     let t = g.W.Watcher.table c.args.watcher.now in
-    let lt : c.loop-watch.watch < t.states = omega (arith, c.state-count-watches.ensures, c.loop-watch-test.true) in
+    let lt : c.loop-watch.watch < t.states = omega (arith, c.state_count-watches.ensures, c.loop-watch-test.true) in
     let B : Positions → Pile Position → Type 0 = λ f p. Begun m t (Has c.args.states) (c.loop-watch.watch + 1) f.rows p in
-    elim c.if-is-marked.branch [
-      | then-is-marked w ↦ subst (λ f. B f c.if-is-marked.pile) (sym w.found-is) (subst (B w.doom-states.new.found) (sym w.pile-is)
-          (begun_here m t (Has c.args.states) (sym c.is-marked.ensures ∙ w.if-is-marked.true) lt c.requires.1.0 inv w.doom-states.ensures))
-      | else-is-marked w ↦ subst (λ f. B f c.if-is-marked.pile) (sym w.found-is) (subst (B c.loop-watch.found) (sym w.pile-is)
-          (begun_not m t (Has c.args.states) (λ e. false≢true (sym w.if-is-marked.false ∙ c.is-marked.ensures ∙ e)) inv))
+    elim c.if-is_marked.branch [
+      | then-is_marked w ↦ subst (λ f. B f c.if-is_marked.pile) (sym w.found-is) (subst (B w.doom_states.new.found) (sym w.pile-is)
+          (begun_here m t (Has c.args.states) (sym c.is_marked.ensures ∙ w.if-is_marked.true) lt c.requires.1.0 inv w.doom_states.ensures))
+      | else-is_marked w ↦ subst (λ f. B f c.if-is_marked.pile) (sym w.found-is) (subst (B c.loop-watch.found) (sym w.pile-is)
+          (begun_not m t (Has c.args.states) (λ e. false≢true (sym w.if-is_marked.false ∙ c.is_marked.ensures ∙ e)) inv))
     ]
 
 pub returns : goal.returns
 returns g c =
     let t = g.W.Watcher.table c.args.watcher.now in
-    let e : c.loop-watch.watch ≡ t.states = omega (arith, c.state-count-watches.ensures, c.loop-watch-test.false, c.loop-watch.auto.watch-end) in
+    let e : c.loop-watch.watch ≡ t.states = omega (arith, c.state_count-watches.ensures, c.loop-watch-test.false, c.loop-watch.auto.watch-end) in
     subst (λ w. Begun c.args.model.now t (Has c.args.states) w c.loop-watch.found.rows c.loop-watch.pile) e c.loop-watch.invariant

@@ -1,4 +1,3 @@
-use Rattle.std.proofs.Common.{◌≡◌}
 use Rattle.model.specs.Sets.{Has}
 use Rattle.release.specs.Beginnings.{Begun}
 use Rattle.release.proofs.search.doom_marked.Given as goal

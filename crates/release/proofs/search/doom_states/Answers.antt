@@ -1,4 +1,4 @@
-use Rattle.std.proofs.Common.{◌≡◌, ℕ, ◌<◌, sym, refl, ap, ◌∙◌, subst, ⊎_elim, arith}
+use Rattle.std.proofs.Common.{refl, subst, ⊎_elim, arith}
 use Rattle.model.specs.declared.number_set.NumberSet.{NumberSet}
 use Rattle.model.specs.Sets.{Has}
 use Rattle.model.proofs.Bits.{bit_none}
@@ -25,7 +25,7 @@ pub loop-state-preserved : goal.loop-state-preserved
 loop-state-preserved c =
     let E = c.in-Some.ensures in
     let inv = c.loop-state.invariant in
-    (taken_more c.args.watch c.args.states c.loop-state.rest c.take-last.new.self c.in-Some.state E.1 E.3 inv.1 inv.0 c.doom.ensures, λ s h. inv.1 s (E.1.keeps s h))
+    (taken_more c.args.watch c.args.states c.loop-state.rest c.take_last.new.self c.in-Some.state E.1 E.3 inv.1 inv.0 c.doom.ensures, λ s h. inv.1 s (E.1.keeps s h))
 
 pub returns : goal.returns
-returns c = laid_like (λ p m. (m.0, m.1)) (λ p m. (m.0, m.1, λ h. bit_none p.0 (subst (λ (x : NumberSet). Has x p.0) c.in-default.ensures.0 h))) c.loop-state.invariant.0
+returns c = laid_like (λ p m. (m.0, m.1)) (λ p m. (m.0, m.1, λ h. bit_none p.0 (subst (λ (x : NumberSet). Has x p.0) c.in_default.ensures.0 h))) c.loop-state.invariant.0

@@ -1,4 +1,4 @@
-use Rattle.std.proofs.Common.{◌≡◌, ℕ}
+use Rattle.std.proofs.Common.{ℕ}
 use Rattle.model.specs.Sets.{Has}
 use Rattle.positions.specs.Searches.{Laid}
 use Rattle.positions.proofs.Findings.{Taken}

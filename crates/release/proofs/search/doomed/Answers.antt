@@ -1,12 +1,11 @@
-use Rattle.std.proofs.Common.{◌≡◌, ℕ, ◌+◌, ◌*◌, ◌<◌, ◌≤◌, sym, refl, ap, ◌∙◌, subst, arith}
-use Rattle.model.specs.Relations.{Exactly}
+use Rattle.std.proofs.Common.{arith}
 use Rattle.model.specs.Sets.{Has}
 use Rattle.positions.proofs.Leadings.{noted_none}
 use Rattle.release.proofs.Dooms.{begun_none, ready_start, roomy_pop, top_inside, ready_looked, turn_less, ready_end, sound_bad, doomed_all, states_without}
 use Rattle.release.proofs.search.doomed.Goals as goal
 
-pub doom-marked-requires : goal.doom-marked-requires
-doom-marked-requires g c =
+pub doom_marked-requires : goal.doom_marked-requires
+doom_marked-requires g c =
     let m = c.args.model.now in
     let unkept = states_without m c.states.result c.below.result c.args.kept c.without.result c.states.ensures c.below.ensures c.without.ensures in
     (c.requires.0, ((λ s h. ((unkept s).0 h).0), begun_none m (g.W.Watcher.table c.args.watcher.now) (Has c.without.result) c.over-pile.ensures.empty (omega (arith, c.over-pile.ensures.room, c.requires.1.1)) c.none-found.ensures))
@@ -15,8 +14,8 @@ pub search-init : goal.search-init
 search-init g c =
     let m = c.args.model.now in
     let t = g.W.Watcher.table c.args.watcher.now in
-    let begun = c.doom-marked.ensures in
-    (ready_start m t (Has c.args.freeing) c.doom-marked.new.found.rows c.doom-marked.new.pile begun.all, begun.roomy, noted_none m t c.doom-marked.new.found.rows c.none-progress.result.actions c.none-progress.ensures, (λ k s. s), λ p h. h)
+    let begun = c.doom_marked.ensures in
+    (ready_start m t (Has c.args.freeing) c.doom_marked.new.found.rows c.doom_marked.new.pile begun.all, begun.roomy, noted_none m t c.doom_marked.new.found.rows c.none-progress.result.actions c.none-progress.ensures, (λ k s. s), λ p h. h)
 
 pub expand-requires : goal.expand-requires
 expand-requires g c =
@@ -57,9 +56,9 @@ returns g c =
     let m = c.args.model.now in
     let t = g.W.Watcher.table c.args.watcher.now in
     let inv = c.search.invariant in
-    let begun = c.doom-marked.ensures in
+    let begun = c.doom_marked.ensures in
     let unkept = states_without m c.states.result c.below.result c.args.kept c.without.result c.states.ensures c.below.ensures c.without.ensures in
     doomed_all m t c.args.freeing c.args.kept c.search.found.rows c.of-charts.ensures.whole
-    (inv.3 c.args.kept (sound_bad m t (Has c.args.freeing) (Has c.args.kept) c.doom-marked.new.found.rows (Has c.without.result) c.requires.0 begun.bad (λ s u. (unkept s).0 u)))
+    (inv.3 c.args.kept (sound_bad m t (Has c.args.freeing) (Has c.args.kept) c.doom_marked.new.found.rows (Has c.without.result) c.requires.0 begun.bad (λ s u. (unkept s).0 u)))
     (λ s q a b bad. inv.4 (s, q) ((begun.bad (s, q)).1 (b, bad.0, (unkept s).1 (a, bad.1))))
-    (ready_end m t (Has c.args.freeing) c.search.found.rows c.search.pile c.in-default.ensures.items.0 inv.0)
+    (ready_end m t (Has c.args.freeing) c.search.found.rows c.search.pile c.in_default.ensures.items.0 inv.0)

@@ -1,10 +1,9 @@
-use Rattle.std.proofs.Common.{◌≡◌, ℕ, ◌*◌, ◌<◌, get_or, sym, refl, ap, ◌∙◌, subst, arith}
+use Rattle.std.proofs.Common.{◌≡◌, ◌*◌, ◌<◌, get_or, ap, ◌∙◌, subst, arith}
 use Rattle.std.proofs.lemmas.Nat.{mul-le}
 use Rattle.model.specs.declared.number_set.NumberSet.{NumberSet}
 use Rattle.model.specs.Relations.{Exactly}
 use Rattle.model.specs.Sets.{Has, nothing}
 use Rattle.language.specs.Tables.{Accepts}
-use Rattle.positions.specs.Pairs.{Holds}
 use Rattle.release.proofs.Dooms.{released, released_words, states_without}
 use Rattle.release.proofs.search.keeping.Goals as goal
 

@@ -1,11 +1,11 @@
-use Rattle.std.proofs.Common.{◌≡◌, ℕ, sym, ◌∙◌, subst, arith}
+use Rattle.std.proofs.Common.{sym, ◌∙◌, subst, arith}
 use Rattle.model.specs.Relations.{Exactly}
 use Rattle.language.specs.Tables.{Complete}
 use Rattle.charts.specs.Arrows.{Shows, Back}
 use Rattle.charts.proofs.charts.Charts.of.Goals as goal
 
-pub arrows-back-requires : goal.arrows-back-requires
-arrows-back-requires g c =
+pub arrows_back-requires : goal.arrows_back-requires
+arrows_back-requires g c =
     let t = g.W.Watcher.table c.args.watcher.now in (
       omega (arith, c.actions.ensures, c.args.model.now.few_actions),
       (subst (λ n. Complete n t) (c.requires.1 ∙ sym c.actions.ensures) (g.met.W.Watcher.complete c.args.watcher.now c.requires.0), c.requires.0),
@@ -17,7 +17,7 @@ returns g c =
     record {
       small = c.requires.0;
       whole = subst (λ n. Complete n t) c.requires.1 (g.met.W.Watcher.complete c.args.watcher.now c.requires.0);
-      into = c.arrows-into.ensures;
-      out = c.arrows-out.ensures;
-      back = subst (λ n. Exactly (Shows c.arrows-back.result.rows) (Back n t)) c.actions.ensures c.arrows-back.ensures;
+      into = c.arrows_into.ensures;
+      out = c.arrows_out.ensures;
+      back = subst (λ n. Exactly (Shows c.arrows_back.result.rows) (Back n t)) c.actions.ensures c.arrows_back.ensures;
     }

@@ -1,4 +1,4 @@
-use Rattle.std.proofs.Common.{◌≡◌, ℕ, ◌<◌, sym, subst, arith}
+use Rattle.std.proofs.Common.{◌≡◌, ℕ, subst, arith}
 use Rattle.model.specs.Relations.{Joined}
 use Rattle.model.proofs.Joins.{joined_none, joined_more}
 use Rattle.walks.proofs.Walks.{step_below}
@@ -9,17 +9,17 @@ use Rattle.charts.proofs.charts.making.add_steps.Goals as goal
 pub loop-action-init : goal.loop-action-init
 loop-action-init g c = joined_none _
 
-pub step-of-requires : goal.step-of-requires
-step-of-requires g c = step_there c.args.actions (g.W.Watcher.table c.args.watcher.now) c.requires.1.0 c.args.watch c.loop-action.action c.requires.1.1.1 c.loop-action-test.true
+pub step_of-requires : goal.step_of-requires
+step_of-requires g c = step_there c.args.actions (g.W.Watcher.table c.args.watcher.now) c.requires.1.0 c.args.watch c.loop-action.action c.requires.1.1.1 c.loop-action-test.true
 
 pub add-requires : goal.add-requires
 add-requires g c =
     let l = step_below c.args.actions (g.W.Watcher.table c.args.watcher.now) c.requires.1.0 c.args.watch c.loop-action.action c.requires.1.1.1 c.loop-action-test.true in
-    (omega (arith, c.requires.0, c.loop-action-test.true), (omega (arith, l, c.step-of.ensures, c.requires.1.1.0), omega (arith, c.requires.1.1.0, c.requires.1.1.1)))
+    (omega (arith, c.requires.0, c.loop-action-test.true), (omega (arith, l, c.step_of.ensures, c.requires.1.1.0), omega (arith, c.requires.1.1.0, c.requires.1.1.1)))
 
 pub loop-action-preserved : goal.loop-action-preserved
 loop-action-preserved g c = joined_more _ c.loop-action.action c.loop-action.invariant
-    (subst (λ (r : ℕ). Joined (Shows c.loop-action.arrows.rows) (Shows c.add.new.self.rows) (λ x. x ≡ (c.loop-action.action, r, c.args.watch))) c.step-of.ensures c.add.ensures)
+    (subst (λ (r : ℕ). Joined (Shows c.loop-action.arrows.rows) (Shows c.add.new.self.rows) (λ x. x ≡ (c.loop-action.action, r, c.args.watch))) c.step_of.ensures c.add.ensures)
 
 pub returns : goal.returns
 returns g c = steps_from c.args.actions (g.W.Watcher.table c.args.watcher.now) c.args.watch c.loop-action.action c.loop-action-test.false c.loop-action.auto.action-end c.loop-action.invariant

@@ -1,4 +1,4 @@
-use Rattle.std.proofs.Common.{◌≡◌, ℕ}
+use Rattle.std.proofs.Common.{◌≡◌}
 use Rattle.model.specs.Relations.{Joined, Upto}
 use Rattle.language.specs.Tables.{step}
 use Rattle.charts.specs.Arrows.{Shows}

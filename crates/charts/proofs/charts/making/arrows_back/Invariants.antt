@@ -1,6 +1,4 @@
-use Rattle.std.proofs.Common.{◌≡◌, ℕ}
 use Rattle.model.specs.Relations.{Joined, Upto}
-use Rattle.language.specs.Tables.{step}
 use Rattle.charts.specs.Arrows.{Shows, BackFrom}
 use Rattle.charts.proofs.charts.making.arrows_back.Given as goal
 

@@ -1,4 +1,4 @@
-use Rattle.std.proofs.Common.{◌≡◌, unwrap_or, sym, ap}
+use Rattle.std.proofs.Common.{unwrap_or, sym, ap}
 use Rattle.charts.proofs.charts.making.step_of.Goals as goal
 
 pub returns-in-Some : goal.returns-in-Some

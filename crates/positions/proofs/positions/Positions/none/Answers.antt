@@ -1,4 +1,4 @@
-use Rattle.std.proofs.Common.{◌≡◌, replicate, sym, subst}
+use Rattle.std.proofs.Common.{replicate, subst}
 use Rattle.model.specs.declared.number_set.NumberSet.{NumberSet}
 use Rattle.model.specs.Sets.{Has, nothing}
 use Rattle.model.proofs.Bits.{bit_none}

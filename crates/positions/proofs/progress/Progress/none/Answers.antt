@@ -1,4 +1,3 @@
-use Rattle.std.proofs.Common.{◌≡◌}
 use Rattle.model.proofs.Tables.{get_d_copies}
 use Rattle.positions.proofs.progress.Progress.none.Goals as goal
 
