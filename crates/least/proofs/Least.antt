@@ -1,5 +1,5 @@
 -- In a closed table no path is shorter than its entry says.
-use Rattle.std.proofs.Common.{◌≡◌, ℕ, zero, suc, ◌+◌, ◌-◌, ◌<◌, ◌≤◌, List, [], ◌∷◌, ◌++◌, length, get_or, sym, refl, ap, ◌∙◌, subst, arith}
+use Rattle.std.proofs.Common.{ℕ, zero, suc, ◌+◌, ◌-◌, ◌<◌, ◌≤◌, List, refl, arith}
 use Rattle.model.specs.Relations.{Among}
 use Rattle.language.specs.declared.rule.Rule.{Rule}
 use Rattle.language.specs.declared.rule.Rule.TheVariants.{Empty, Letter, Lead, Same, Pair}
@@ -7,7 +7,7 @@ use Rattle.language.specs.Rules.{SymbolsBelow, RulesWithin}
 use Rattle.logic.specs.Facts.{Triple}
 use Rattle.least.specs.declared.scope.Scope.{Scope}
 use Rattle.least.specs.Walks.{WalkWithin, GivesIn}
-use Rattle.least.specs.Entries.{ground_of, entry_of, In, Known, AtMost, Closed}
+use Rattle.least.specs.Entries.{ground_of, entry_of, Known, AtMost, Closed}
 use Rattle.least.proofs.Walking.{walk_to, guarded_start, guarded_end}
 
 module _ (c : Scope) (rules : List Rule) (top : ℕ) (in_rules : RulesWithin c.symbols rules) (w : List ℕ) (closed : Closed c rules top w) where

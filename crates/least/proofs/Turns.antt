@@ -1,18 +1,18 @@
 -- What one turn of a lowering loop does, and all of them.
-use Rattle.std.proofs.Common.{◌≡◌, ℕ, ◌+◌, ◌-◌, ◌*◌, ◌<◌, ◌≤◌, Bool, true, false, ◌⊎◌, List, [], ◌∷◌, length, get_or, Some, sym, refl, ap, ◌∙◌, subst, inl, inr, ⊎_elim, mul-le-mul_right, arith}
+use Rattle.std.proofs.Common.{◌≡◌, ℕ, ◌+◌, ◌-◌, ◌*◌, ◌<◌, ◌≤◌, Bool, false, ◌⊎◌, List, length, get_or, Some, sym, refl, ap, ◌∙◌, subst, inl, inr, ⊎_elim, mul-le-mul_right, arith}
 use native.Mathlib.Decide.{dec_le, ℕ_discrete}
 use Rattle.std.specs.List.{slice_get}
 use Rattle.std.proofs.lemmas.Option.{slice_get-get_or}
 use Rattle.model.specs.declared.edge.Edge.{Edge}
-use Rattle.model.specs.Models.{HasEdge, edges_of}
+use Rattle.model.specs.Models.{HasEdge}
 use Rattle.model.specs.Relations.{Among}
 use Rattle.model.specs.Sets.{Has}
 use Rattle.language.specs.declared.rule.Rule.{Rule}
 use Rattle.language.specs.declared.rule.Rule.TheVariants.{Empty, Letter, Lead, Same, Pair}
 use Rattle.logic.specs.Facts.{Triple}
 use Rattle.least.specs.declared.scope.Scope.{Scope}
-use Rattle.least.specs.Walks.{Walk, Leads}
-use Rattle.least.specs.Entries.{ground_of, place, entry_of, In, Known, AtMost, Sound, Closed, Room}
+use Rattle.least.specs.Walks.{Walk}
+use Rattle.least.specs.Entries.{ground_of, place, entry_of, In, AtMost, Closed, Room}
 use Rattle.least.specs.Lowering.{Lowers, Given, Lifted, Summed, Run, PairAt, Lower, LedAt, LedAlong, LetterAt, EmptyAt, ShutAt, ShutStart, ShutStarts, ShutAll, ShutIn, ShutRule, FirstPart}
 use Rattle.least.proofs.Walking.{walk_from, edge_inside}
 use Rattle.least.proofs.Runs.{run_of, run_none, run_like}

@@ -1,5 +1,5 @@
 -- Guarded paths and derivations: put together, and taken apart.
-use Rattle.std.proofs.Common.{◌≡◌, ℕ, zero, suc, ◌+◌, ◌<◌, ◌≤◌, List, [], ◌∷◌, ◌++◌, length, sym, refl, ap, ◌∙◌, subst, add_comm, arith, length-append}
+use Rattle.std.proofs.Common.{◌≡◌, ℕ, zero, suc, ◌+◌, ◌<◌, List, [], ◌∷◌, ◌++◌, length, sym, refl, ap, subst, add_comm, arith, length-append}
 use Rattle.model.specs.declared.edge.Edge.{Edge}
 use Rattle.model.specs.declared.edge.Step.{Step}
 use Rattle.model.specs.declared.model.Model.{Model}
@@ -12,7 +12,7 @@ use Rattle.language.specs.declared.rule.Rule.{Rule}
 use Rattle.language.specs.declared.rule.Rule.TheVariants.{Empty, Letter, Lead, Same, Pair}
 use Rattle.language.specs.Derivations.{Yields, Derives, DerivesWithin}
 use Rattle.language.specs.Words.{Word}
-use Rattle.logic.specs.Paths.{edge, word}
+use Rattle.logic.specs.Paths.{word}
 use Rattle.logic.specs.Facts.{Triple, Ground, Guarded}
 use Rattle.least.specs.Walks.{WalkWithin, Walk, Leads, GivesIn}
 

@@ -95,8 +95,8 @@ pub fn sweep<L: UntilLanguage>(
     top: u32,
     band: Band,
 ) -> bool
-    requires { (Room scope.now top (length work.old)) × (RulesWithin scope.now.symbols (rules language.now)) }
-    ensures { Run scope.now (rules language.now) (ShutAll scope.now (rules language.now) top band.low band.high) work.old work.new result }
+    requires { (Room scope.now top (length work.old)) × (RulesWithin scope.now.symbols (L.rules language.now)) }
+    ensures { Run scope.now (L.rules language.now) (ShutAll scope.now (L.rules language.now) top band.low band.high) work.old work.new result }
 {
     let mut fell = false;
     for place in 0..language.rule_count() {
@@ -109,8 +109,8 @@ pub fn sweep<L: UntilLanguage>(
 
 // Lowers by all rules that have no part.
 pub fn start<L: UntilLanguage>(work: &mut [u32], language: &L, scope: &Scope, top: u32) -> bool
-    requires { (Room scope.now top (length work.old)) × (RulesWithin scope.now.symbols (rules language.now)) }
-    ensures { Run scope.now (rules language.now) (ShutStarts scope.now (rules language.now) top) work.old work.new result }
+    requires { (Room scope.now top (length work.old)) × (RulesWithin scope.now.symbols (L.rules language.now)) }
+    ensures { Run scope.now (L.rules language.now) (ShutStarts scope.now (L.rules language.now) top) work.old work.new result }
 {
     let mut fell = false;
     for place in 0..language.rule_count() {
@@ -123,9 +123,9 @@ pub fn start<L: UntilLanguage>(work: &mut [u32], language: &L, scope: &Scope, to
 
 // Lowers until no rule gives less, as far as entries up to the top go.
 pub fn settle<L: UntilLanguage>(work: &mut [u32], language: &L, scope: &Scope, top: u32)
-    requires { (Room scope.now top (length work.old)) × (RulesWithin scope.now.symbols (rules language.now)) }
-    ensures sound { Sound scope.now (rules language.now) work.old → Sound scope.now (rules language.now) work.new }
-    ensures closed { Closed scope.now (rules language.now) top work.new }
+    requires { (Room scope.now top (length work.old)) × (RulesWithin scope.now.symbols (L.rules language.now)) }
+    ensures sound { Sound scope.now (L.rules language.now) work.old → Sound scope.now (L.rules language.now) work.new }
+    ensures closed { Closed scope.now (L.rules language.now) top work.new }
 {
     loop {
         let first = start(work, language, scope, top);

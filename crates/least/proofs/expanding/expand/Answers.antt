@@ -1,4 +1,4 @@
-use Rattle.std.proofs.Common.{◌-◌, ◌||◌, sym, ap, ◌∙◌, subst, arith}
+use Rattle.std.proofs.Common.{◌||◌, sym, ap, ◌∙◌, subst, arith}
 use Rattle.language.specs.Rules.{SymbolsBelow}
 use Rattle.language.specs.declared.rule.Rule.TheVariants.{Same}
 use Rattle.least.specs.Entries.{triple}
@@ -23,10 +23,10 @@ returns-else-body-fact c =
 
 pub returns-then-not-both : goal.returns-then-not-both
 returns-then-not-both c =
-    subst (λ r. Always c.args.scope.now r (ShutOn c.args.scope.now c.args.top r (triple c.args.fact)) c.args.work.now c.expand-first-first.new.work c.expand-first-first.result) (sym c.in-Pair.is) c.expand-first-first.ensures
+    subst (λ r. Always c.args.scope.now r (ShutOn c.args.scope.now c.args.top r (triple c.args.fact)) c.args.work.now c.expand_first-first.new.work c.expand_first-first.result) (sym c.in-Pair.is) c.expand_first-first.ensures
 
 pub returns-else-not-both : goal.returns-else-not-both
 returns-else-not-both c =
-    subst (λ r. Always c.args.scope.now r (ShutOn c.args.scope.now c.args.top r (triple c.args.fact)) c.args.work.now c.expand-second-second.new.work (c.expand-first-first.result || c.expand-second-second.result))
+    subst (λ r. Always c.args.scope.now r (ShutOn c.args.scope.now c.args.top r (triple c.args.fact)) c.args.work.now c.expand_second-second.new.work (c.expand_first-first.result || c.expand_second-second.result))
     (sym c.in-Pair.is)
-    (λ rules r∈. run_like _ _ _ (λ (a, b). a) (run_both _ _ (c.expand-first-first.ensures rules r∈) (c.expand-second-second.ensures rules r∈)))
+    (λ rules r∈. run_like _ _ _ (λ (a, b). a) (run_both _ _ (c.expand_first-first.ensures rules r∈) (c.expand_second-second.ensures rules r∈)))

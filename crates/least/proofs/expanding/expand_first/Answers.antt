@@ -1,4 +1,4 @@
-use Rattle.std.proofs.Common.{◌-◌, sym, subst}
+use Rattle.std.proofs.Common.{sym, subst}
 use Rattle.language.specs.declared.rule.Rule.TheVariants.{Pair}
 use Rattle.least.specs.Entries.{triple}
 use Rattle.least.specs.Lowering.{Always, ShutAt}
@@ -6,5 +6,5 @@ use Rattle.least.proofs.expanding.expand_first.Goals as goal
 
 pub returns : goal.returns
 returns c =
-    subst (λ B. Always c.args.scope.now (Pair c.args.head B c.args.right) (ShutAt c.args.scope.now c.args.top (Pair c.args.head B c.args.right) (triple c.args.fact)) c.args.work.now c.expand-left.new.work c.expand-left.result)
-    (sym c.if-left-fact.false) c.expand-left.ensures
+    subst (λ B. Always c.args.scope.now (Pair c.args.head B c.args.right) (ShutAt c.args.scope.now c.args.top (Pair c.args.head B c.args.right) (triple c.args.fact)) c.args.work.now c.expand_left.new.work c.expand_left.result)
+    (sym c.if-left-fact.false) c.expand_left.ensures

@@ -1,4 +1,4 @@
-use Rattle.std.proofs.Common.{◌-◌, ◌<◌, get_or, sym, refl, ap, ◌∙◌, inl, inr, ⊎_elim, arith}
+use Rattle.std.proofs.Common.{◌<◌, get_or, sym, refl, ap, ◌∙◌, inl, inr, ⊎_elim, arith}
 use Rattle.least.proofs.Runs.{run_none, run_like, run_more}
 use Rattle.least.proofs.Turns.{is_in, in_table, room_at, row_in, pair_turn, left_all, left_none, left_far}
 use Rattle.least.proofs.expanding.expand_left.Goals as goal
@@ -17,16 +17,16 @@ returns-then-known-eq0 c rules r∈ =
     let at = ap (λ x. get_or c.args.work.now x 0) c.cell-part.ensures in
     left_far c.args.scope.now rules _ _ _ _ _ _ c.args.work.now (⊎_elim (λ z. inl (sym at ∙ z)) (λ (n, l). inr (omega (arith, at, l))) c.then-known-eq0.either)
 
-pub any-lower-requires : goal.any-lower-requires
-any-lower-requires c =
+pub any_lower-requires : goal.any_lower-requires
+any_lower-requires c =
     let room = c.requires.0 in
     let i = c.requires.1.0 in
     let st = c.states.ensures in
     (omega (arith, c.if-known-eq0.false), (omega (arith, c.if-known-top.false, room.low), (room.low, (omega (arith, st, row_in c.args.scope.now _ _ _ _ _ room c.requires.1.1.1 i.to c.cell-others.ensures), omega (arith, st, row_in c.args.scope.now _ _ _ _ _ room c.requires.1.1.0 i.from c.cell-heads.ensures)))))
 
-pub returns-then-not-any-lower : goal.returns-then-not-any-lower
-returns-then-not-any-lower c rules r∈ =
-    left_none c.args.scope.now rules _ _ _ _ _ _ _ _ _ c.args.work.now (ap (λ x. get_or c.args.work.now x 0) c.cell-part.ensures) c.cell-others.ensures c.cell-heads.ensures (λ k l. c.if-not-any-lower.ensures refl k (omega (arith, l, c.states.ensures)))
+pub returns-then-not-any_lower : goal.returns-then-not-any_lower
+returns-then-not-any_lower c rules r∈ =
+    left_none c.args.scope.now rules _ _ _ _ _ _ _ _ _ c.args.work.now (ap (λ x. get_or c.args.work.now x 0) c.cell-part.ensures) c.cell-others.ensures c.cell-heads.ensures (λ k l. c.if-not-any_lower.ensures refl k (omega (arith, l, c.states.ensures)))
 
 pub loop-to-init : goal.loop-to-init
 loop-to-init c rules r∈ = run_none _ _ _ _ (λ t l. absurd (omega arith))

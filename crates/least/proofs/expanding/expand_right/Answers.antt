@@ -1,4 +1,4 @@
-use Rattle.std.proofs.Common.{◌-◌, ◌<◌, arith}
+use Rattle.std.proofs.Common.{◌<◌, arith}
 use Rattle.least.proofs.Runs.{run_none, run_like, run_more}
 use Rattle.least.proofs.Turns.{is_in, in_table, room_at, pair_turn}
 use Rattle.least.proofs.expanding.expand_right.Goals as goal

@@ -1,4 +1,4 @@
-use Rattle.std.proofs.Common.{◌-◌, refl, arith}
+use Rattle.std.proofs.Common.{refl, arith}
 use Rattle.least.proofs.Runs.{run_like}
 use Rattle.least.proofs.Turns.{is_in, ends_in, in_table, lead_turn}
 use Rattle.least.proofs.leading.lead_to.Goals as goal

@@ -1,4 +1,4 @@
-use Rattle.std.proofs.Common.{◌≡◌, ◌-◌, Bool, true, false, ◌||◌, ◌≢◌, sym, refl, ◌∙◌, arith, below_more}
+use Rattle.std.proofs.Common.{◌≡◌, Bool, true, false, ◌||◌, sym, refl, ◌∙◌, arith, below_more}
 use mathlib.Core.Bool.{false≢true}
 use Rattle.least.proofs.lowering.any_lower.Goals as goal
 
@@ -12,7 +12,7 @@ loop-k-init c e = λ j l. absurd (omega arith)
 pub loop-k-preserved : goal.loop-k-preserved
 loop-k-preserved c e =
     let (a, b) = neither _ _ e in
-    below_more _ _ (c.loop-k.invariant a) (λ y. false≢true (sym b ∙ c.is-lower-lower.ensures.1 y))
+    below_more _ _ (c.loop-k.invariant a) (λ y. false≢true (sym b ∙ c.is_lower-lower.ensures.1 y))
 
 pub returns : goal.returns
 returns c e = λ j l. c.loop-k.invariant e j (omega (arith, c.loop-k-test.false))

@@ -1,4 +1,4 @@
-use Rattle.std.proofs.Common.{ℕ, ◌-◌, refl, arith}
+use Rattle.std.proofs.Common.{ℕ, refl, arith}
 use Rattle.least.proofs.Runs.{lowers_like, lift_like}
 use Rattle.least.proofs.lowering.lift.Goals as goal
 

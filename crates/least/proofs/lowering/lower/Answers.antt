@@ -1,4 +1,4 @@
-use Rattle.std.proofs.Common.{◌-◌, get_or, inl, inr, arith}
+use Rattle.std.proofs.Common.{get_or, inl, inr, arith}
 use Rattle.least.proofs.Runs.{lowered}
 use native.Mathlib.Decide.{ℕ_discrete}
 use Rattle.least.proofs.lowering.lower.Goals as goal

@@ -1,4 +1,3 @@
-use Rattle.std.proofs.Common.{◌-◌}
 use Rattle.least.proofs.Runs.{run_like}
 use Rattle.least.proofs.Turns.{in_table}
 use Rattle.least.proofs.sweeping.expand_in.Goals as goal

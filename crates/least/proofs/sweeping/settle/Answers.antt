@@ -1,4 +1,4 @@
-use Rattle.std.proofs.Common.{◌-◌, sym, subst}
+use Rattle.std.proofs.Common.{sym, subst}
 use Rattle.least.specs.Entries.{Closed}
 use Rattle.least.proofs.Runs.{run_both}
 use Rattle.least.proofs.Turns.{shut_closed}

@@ -1,6 +1,6 @@
-use Rattle.std.proofs.Common.{◌-◌, sym, ◌∙◌, arith}
+use Rattle.std.proofs.Common.{sym, ◌∙◌, arith}
 use Rattle.least.proofs.Runs.{run_none, run_skip, run_as, run_at, run_all}
-use Rattle.least.proofs.sweeping.sweep.Goals.{in-Some, in-default}
+use Rattle.least.proofs.sweeping.sweep.Goals.{in-Some, in_default}
 use Rattle.least.proofs.sweeping.sweep.Goals as goal
 
 pub loop-place-init : goal.loop-place-init
@@ -10,9 +10,9 @@ pub loop-place-preserved : goal.loop-place-preserved
 loop-place-preserved g c = elim c.match-rule.branch [
   | in-Some w ↦
       let here = sym c.rule.ensures ∙ w.in-Some.is in
-      run_as _ _ w.work-is w.fell-is (run_at _ _ _ _ _ here c.loop-place.invariant (w.sweep-rule-fell.ensures _ (_, here)))
-  | in-default w ↦ run_as _ _ w.work-is w.fell-is (run_skip _ _ _ c.loop-place.invariant (λ r is. absurd (w.in-default.not-Some r (c.rule.ensures ∙ is))))
+      run_as _ _ w.work-is w.fell-is (run_at _ _ _ _ _ here c.loop-place.invariant (w.sweep_rule-fell.ensures _ (_, here)))
+  | in_default w ↦ run_as _ _ w.work-is w.fell-is (run_skip _ _ _ c.loop-place.invariant (λ r is. absurd (w.in_default.not-Some r (c.rule.ensures ∙ is))))
 ]
 
 pub returns : goal.returns
-returns g c = run_all _ _ _ _ (omega (arith, c.rule-count-place-end.ensures, c.loop-place-test.false)) c.loop-place.invariant
+returns g c = run_all _ _ _ _ (omega (arith, c.rule_count-place-end.ensures, c.loop-place-test.false)) c.loop-place.invariant
