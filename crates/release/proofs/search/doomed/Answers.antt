@@ -7,8 +7,7 @@ use Rattle.release.proofs.search.doomed.Goals as goal
 pub doom_marked-requires : goal.doom_marked-requires
 doom_marked-requires g c =
     let m = c.args.model.now in
-    let unkept = states_without m c.states.result c.below.result c.args.kept c.without.result c.states.ensures c.below.ensures c.without.ensures in
-    (c.requires.0, ((λ s h. ((unkept s).0 h).0), begun_none m (g.W.Watcher.table c.args.watcher.now) (Has c.without.result) c.over-pile.ensures.empty (omega (arith, c.over-pile.ensures.room, c.requires.1.1)) c.none-found.ensures))
+    (c.requires.0, ((λ s h. omega (arith, ((c.below.ensures s).0 ((c.without.ensures s).0 h).0).0, c.states.ensures)), begun_none m (g.W.Watcher.table c.args.watcher.now) (Has c.without.result) c.over-pile.ensures.empty (omega (arith, c.over-pile.ensures.room, c.requires.1.1)) c.none-found.ensures))
 
 pub search-init : goal.search-init
 search-init g c =
