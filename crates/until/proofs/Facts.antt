@@ -1,5 +1,5 @@
 -- Facts by height: one height more is what the rules give from the facts of the height before.
-use Rattle.std.proofs.Common.{◌≡◌, ℕ, zero, suc, ◌+◌, ◌*◌, ◌<◌, ◌≤◌, ◌⊎◌, List, [], ◌∷◌, ◌++◌, sym, refl, ap, ◌∙◌, subst, inl, inr, ⊎_elim, add-one, arith}
+use Rattle.std.proofs.Common.{◌≡◌, ℕ, zero, suc, ◌+◌, ◌<◌, ◌≤◌, ◌⊎◌, List, [], ◌∷◌, ◌++◌, sym, refl, ap, ◌∙◌, subst, inl, inr, ⊎_elim, add-one, arith}
 use native.Mathlib.Decide.{dec_le, ℕ_discrete}
 use Rattle.model.specs.declared.edge.Step.{Step}
 use Rattle.model.specs.Relations.{Among, Joined, Exactly}
@@ -7,7 +7,7 @@ use Rattle.language.specs.Words.{Word}
 use Rattle.language.specs.declared.rule.Rule.{Rule}
 use Rattle.language.specs.declared.rule.Rule.TheVariants.{Empty, Letter, Lead, Same, Pair}
 use Rattle.language.specs.Rules.{SymbolsBelow, RulesWithin}
-use Rattle.language.specs.Derivations.{Yields, DerivesWithin, Derives}
+use Rattle.language.specs.Derivations.{Yields, DerivesWithin}
 use Rattle.logic.specs.Paths.{word}
 use Rattle.logic.specs.Facts.{Triple, Ground, Guarded, FactWithin, Fact, LeastHeight}
 use Rattle.until.specs.Consequences.{Gives, GivesAlone, GivesFresh, ByRules, ByRulesAlone, ByRulesFresh, Lacking, FactsBelow}

@@ -1,5 +1,5 @@
 -- Facts of symbol 0 into the goal are good paths.
-use Rattle.std.proofs.Common.{◌≡◌, ℕ, ◌<◌, List, sym, refl, subst}
+use Rattle.std.proofs.Common.{◌≡◌, ℕ, ◌<◌, List, sym, subst}
 use Rattle.model.specs.declared.model.Model.{Model}
 use Rattle.model.specs.declared.number_set.NumberSet.{NumberSet}
 use Rattle.model.specs.Relations.{Exactly}
@@ -8,7 +8,7 @@ use Rattle.language.specs.declared.rule.Rule.{Rule}
 use Rattle.language.specs.Derivations.{Derives}
 use Rattle.language.specs.Words.{Word}
 use Rattle.logic.specs.Paths.{end, SomeGood}
-use Rattle.logic.specs.Facts.{Triple, Ground, ground, Fact}
+use Rattle.logic.specs.Facts.{Triple, ground, Fact}
 use Rattle.until.proofs.GuardedPaths.{guarded_good, good_guarded, good_words}
 
 module _ (m : Model) (guard goal : NumberSet) (rules : List Rule) where

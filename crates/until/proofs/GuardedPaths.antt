@@ -1,16 +1,15 @@
 -- Guarded paths: their ends, how they are put together and taken apart, and when they are good.
-use Rattle.std.proofs.Common.{◌≡◌, ℕ, zero, suc, ◌<◌, ◌≤◌, List, [], ◌∷◌, ◌++◌, length, sym, refl, ap, ◌∙◌, subst, arith}
+use Rattle.std.proofs.Common.{◌≡◌, ℕ, suc, ◌<◌, List, [], ◌∷◌, ◌++◌, length, sym, refl, ap, subst, arith}
 use Rattle.model.specs.declared.edge.Edge.{Edge}
 use Rattle.model.specs.declared.edge.Step.{Step}
 use Rattle.model.specs.declared.model.Model.{Model}
-use Rattle.model.specs.declared.number_set.NumberSet.{NumberSet}
 use Rattle.model.specs.Edges.{Inside, no_edge}
 use Rattle.model.specs.Models.{HasEdge}
 use Rattle.model.specs.Sets.{Has}
 use Rattle.model.proofs.Tables.{among_place}
 use Rattle.language.specs.Words.{Word}
 use Rattle.logic.specs.Paths.{edge, Chain, end, word, Before, Good, SomeGood}
-use Rattle.logic.specs.Facts.{Ground, ground, Guarded}
+use Rattle.logic.specs.Facts.{Ground, Guarded}
 
 -- an edge of a model names states and an action that are there
 pub edge_inside : (m : Model) (e : Edge) → HasEdge m e → Inside m.states m.actions e

@@ -1,5 +1,5 @@
 -- More facts are a larger count, and no more facts the same.
-use Rattle.std.proofs.Common.{◌≡◌, ℕ, zero, suc, ◌+◌, ◌*◌, ◌/◌, ◌%◌, ◌^◌, ◌<◌, ◌≤◌, ◌⊎◌, List, [], ◌∷◌, length, get_or, set, replicate, sym, refl, ap, ◌∙◌, subst, inl, inr, ⊎_elim, le_of_eq, add_comm, div-one, add-one, one-add, arith, get_or-set_other, get_or-set_same, below_more}
+use Rattle.std.proofs.Common.{◌≡◌, ℕ, zero, suc, ◌+◌, ◌*◌, ◌/◌, ◌%◌, ◌^◌, ◌<◌, ◌≤◌, List, length, get_or, set, replicate, sym, refl, ap, ◌∙◌, subst, inl, inr, ⊎_elim, le_of_eq, add_comm, div-one, add-one, one-add, arith, get_or-set_other, get_or-set_same, below_more}
 use mathlib.Core.Path.{transport}
 use native.Mathlib.Nat.{two-pow-succ}
 use native.Mathlib.Decide.{dec_lt, ℕ_discrete}
@@ -11,7 +11,7 @@ use Rattle.model.specs.Sets.{Bit, Has, nothing}
 use Rattle.model.specs.Relations.{Joined, Exactly}
 use Rattle.model.proofs.Tables.{get_d_copies}
 use Rattle.logic.specs.Facts.{Triple}
-use Rattle.until.specs.FactTables.{row_of, Holds, size}
+use Rattle.until.specs.FactTables.{Holds, size}
 use Rattle.until.specs.Consequences.{Lacking}
 use Rattle.until.proofs.Rows.{has_none}
 

@@ -12,16 +12,16 @@ cells : (s n symbols states : ℕ) → s ≡ symbols → n ≡ states → s * n 
 cells s n symbols states es en = ap (λ x. x * n * n) es ∙ ap (λ x. symbols * x * x) en
 
 pub clear-requires : goal.clear-requires
-clear-requires g c = subst (λ x. x ≤ length c.args.work.now) (sym (cells _ _ _ _ c.symbol-count-symbols.ensures c.states-states.ensures)) c.requires.room
+clear-requires g c = subst (λ x. x ≤ length c.args.work.now) (sym (cells _ _ _ _ c.symbol_count-symbols.ensures c.states-states.ensures)) c.requires.room
 
-pub first-facts-fresh-requires : goal.first-facts-fresh-requires
-first-facts-fresh-requires g c = rules_within _ 16 _ c.requires.symbols (g.met.L.UntilLanguage.symbols_known c.args.language.now c.requires.symbols c.requires.rules)
+pub first_facts-fresh-requires : goal.first_facts-fresh-requires
+first_facts-fresh-requires g c = rules_within _ 16 _ c.requires.symbols (g.met.L.UntilLanguage.symbols_known c.args.language.now c.requires.symbols c.requires.rules)
 
 pub loop-size-init : goal.loop-size-init
 loop-size-init g c = (
-  sym c.empty_all.ensures.size,
-  (λ f. (λ h. absurd (c.empty_all.ensures.none f h), λ w. absurd w.2)),
-  first_new (ground c.args.model.now c.args.guard) (g.L.UntilLanguage.rules c.args.language.now) (Holds c.first-facts-fresh.result.rows) c.first-facts-fresh.ensures,
+  sym c.empty-all.ensures.size,
+  (λ f. (λ h. absurd (c.empty-all.ensures.none f h), λ w. absurd w.2)),
+  first_new (ground c.args.model.now c.args.guard) (g.L.UntilLanguage.rules c.args.language.now) (Holds c.first_facts-fresh.result.rows) c.first_facts-fresh.ensures,
   (λ k l. entry_none (ground c.args.model.now c.args.guard) (g.L.UntilLanguage.rules c.args.language.now) (spot c.states-states.result k) (get_or c.clear.new.work k 0) (elim (c.clear.ensures k) [ inl y ↦ y.1 | inr n ↦ absurd (n.0 l) ])),
   (λ k l. refl),
   omega arith,
@@ -30,7 +30,7 @@ loop-size-init g c = (
 
 pub note-requires : goal.note-requires
 note-requires g c =
-    let es = c.symbol-count-symbols.ensures in
+    let es = c.symbol_count-symbols.ensures in
     let en = c.states-states.ensures in
     let m = c.args.model.now in
     record {
@@ -39,8 +39,8 @@ note-requires g c =
       room = let e = cells _ _ _ _ es en in omega (arith, c.requires.room);
     }
 
-pub further-facts-requires : goal.further-facts-requires
-further-facts-requires g c =
+pub further_facts-requires : goal.further_facts-requires
+further_facts-requires g c =
     let G = ground c.args.model.now c.args.guard in
     let R = g.L.UntilLanguage.rules c.args.language.now in
     let within = rules_within _ 16 R c.requires.symbols (g.met.L.UntilLanguage.symbols_known c.args.language.now c.requires.symbols c.requires.rules) in
@@ -66,11 +66,11 @@ loop-size-preserved g c =
     let some : 0 < n = omega (arith, c.states-states.ensures, c.args.model.now.some_state) in (
       c.count-grown.ensures.size,
       next,
-      next_new G R h F N all (Holds c.further-facts.result.rows) (Holds c.without-fresh.result.rows) inv.1 c.include.ensures next c.further-facts.ensures c.without-fresh.ensures,
+      next_new G R h F N all (Holds c.further_facts.result.rows) (Holds c.without-fresh.result.rows) inv.1 c.include.ensures next c.further_facts.ensures c.without-fresh.ensures,
       (λ k l. entry_more G R h N inv.2 (spot n k) (get_or c.loop-size.work k 0) (get_or c.note.new.work k 0) (c.note.ensures k) (inv.3 k l)),
       (λ k l. elim (c.note.ensures k) [
         | inl y ↦ let b = lacking_below G R (g.L.UntilLanguage.symbols c.args.language.now) (h + 1) N (FactWithin G R h) (g.met.L.UntilLanguage.symbols_known c.args.language.now c.requires.symbols c.requires.rules) inv.2 (spot n k) y.0 in
-            let below = spot_below n c.symbol-count-symbols.result k some (omega (arith, b.0, c.symbol-count-symbols.ensures)) in absurd (omega arith)
+            let below = spot_below n c.symbol_count-symbols.result k some (omega (arith, b.0, c.symbol_count-symbols.ensures)) in absurd (omega arith)
         | inr o ↦ o.1 ∙ inv.4 k l
       ]),
       omega (arith, c.count-grown.ensures.size, inv.0, inv.5, c.if-grown-size.false),
@@ -89,7 +89,7 @@ returns-then-grown-size g c =
     let next = height_joined G R h F N all (holds_dec _) inv.1 inv.2 c.include.ensures in
     let same = table_same _ _ c.include.new.self.long c.include.ensures.keeps (omega (arith, c.count-grown.ensures.size, c.if-grown-size.true, inv.0)) in
     let facts = settled_all G R h F all inv.1 next same c.include.ensures.keeps in
-    let e = cells _ _ _ _ c.symbol-count-symbols.ensures c.states-states.ensures in
+    let e = cells _ _ _ _ c.symbol_count-symbols.ensures c.states-states.ensures in
     record {
       facts = facts;
       heights = λ k l. subst (λ n. LeastHeight G R (spot n k) (get_or c.loop-size.work k 0)) c.states-states.ensures

@@ -1,4 +1,4 @@
-use Rattle.std.proofs.Common.{◌≡◌, refl, arith}
+use Rattle.std.proofs.Common.{refl, arith}
 use Rattle.model.proofs.Joins.{joined_none, joined_more, joined_exactly, joined_exact}
 use Rattle.until.proofs.Rows.{has_none}
 use Rattle.until.proofs.marking.reaching.Goals as goal
@@ -7,7 +7,7 @@ pub loop-s-init : goal.loop-s-init
 loop-s-init c = joined_none _
 
 pub loop-s-preserved : goal.loop-s-preserved
-loop-s-preserved c = joined_more _ _ c.loop-s.invariant (joined_exactly c.reaching-from.ensures c.union-found.ensures)
+loop-s-preserved c = joined_more _ _ c.loop-s.invariant (joined_exactly c.reaching_from.ensures c.union-found.ensures)
 
 pub returns : goal.returns
 returns c = joined_exact _ _ (λ t h. has_none _ t c.empty-found.ensures h)

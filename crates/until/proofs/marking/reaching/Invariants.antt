@@ -1,4 +1,4 @@
-use Rattle.std.proofs.Common.{◌≡◌, ℕ, ◌<◌}
+use Rattle.std.proofs.Common.{◌≡◌, ℕ}
 use Rattle.model.specs.Relations.{Joined, Upto}
 use Rattle.model.specs.Sets.{Has}
 use Rattle.until.specs.FactTables.{Holds}

@@ -1,4 +1,4 @@
-use Rattle.std.proofs.Common.{◌≡◌, ℕ, sym, refl, subst}
+use Rattle.std.proofs.Common.{sym, refl, subst}
 use Rattle.model.specs.Sets.{Has}
 use Rattle.until.specs.FactTables.{Holds}
 use Rattle.until.proofs.Rows.{has_none}

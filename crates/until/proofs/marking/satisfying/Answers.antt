@@ -1,4 +1,3 @@
-use Rattle.std.proofs.Common.{◌≡◌}
 use Rattle.until.specs.FactTables.{Holds}
 use Rattle.until.proofs.Goals.{reach_exact, words_exact}
 use Rattle.until.proofs.marking.satisfying.Goals as goal

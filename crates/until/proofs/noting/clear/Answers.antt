@@ -1,4 +1,4 @@
-use Rattle.std.proofs.Common.{◌≡◌, ℕ, ◌+◌, ◌<◌, ◌≤◌, ◌⊎◌, length, inl, inr, arith}
+use Rattle.std.proofs.Common.{◌≡◌, ℕ, ◌+◌, ◌<◌, ◌⊎◌, inl, inr, arith}
 use native.Mathlib.Decide.{dec_lt}
 use Rattle.until.proofs.Notes.{written_none, written_more, written_like}
 use Rattle.until.proofs.noting.clear.Goals as goal

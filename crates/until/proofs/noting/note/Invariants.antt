@@ -1,4 +1,4 @@
-use Rattle.std.proofs.Common.{◌≡◌, ℕ, ◌+◌, ◌*◌, ◌/◌, ◌%◌, ◌<◌}
+use Rattle.std.proofs.Common.{◌/◌, ◌<◌}
 use Rattle.until.specs.FactTables.{Holds, spot}
 use Rattle.until.specs.Notes.{Written}
 use Rattle.until.proofs.noting.note.Given as goal

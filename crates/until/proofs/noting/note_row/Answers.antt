@@ -1,4 +1,4 @@
-use Rattle.std.proofs.Common.{◌≡◌, ℕ, ◌+◌, ◌<◌, ◌≤◌, refl, arith}
+use Rattle.std.proofs.Common.{refl, arith}
 use Rattle.until.proofs.Notes.{written_none, written_like, number_written}
 use Rattle.until.proofs.Rows.{has_none}
 use Rattle.until.proofs.noting.note_row.Goals as goal
@@ -6,11 +6,11 @@ use Rattle.until.proofs.noting.note_row.Goals as goal
 pub loop-to-init : goal.loop-to-init
 loop-to-init c = (written_none _ _ _ (λ k m. m.3 m.2), λ t h. h)
 
-pub overflow-add-work : goal.overflow-add-work
-overflow-add-work c = let room = c.requires c.in-Some.to (c.loop-to.invariant.1 _ (c.in-Some.ensures.1.puts _ refl)) in omega arith
+pub overflow_add-work : goal.overflow_add-work
+overflow_add-work c = let room = c.requires c.in-Some.to (c.loop-to.invariant.1 _ (c.in-Some.ensures.1.puts _ refl)) in omega arith
 
-pub offset-bounds-work-base : goal.offset-bounds-work-base
-offset-bounds-work-base c = let room = c.requires c.in-Some.to (c.loop-to.invariant.1 _ (c.in-Some.ensures.1.puts _ refl)) in omega arith
+pub offset_bounds-work-base : goal.offset_bounds-work-base
+offset_bounds-work-base c = let room = c.requires c.in-Some.to (c.loop-to.invariant.1 _ (c.in-Some.ensures.1.puts _ refl)) in omega arith
 
 pub bounds-work-base : goal.bounds-work-base
 bounds-work-base c = let room = c.requires c.in-Some.to (c.loop-to.invariant.1 _ (c.in-Some.ensures.1.puts _ refl)) in omega arith
@@ -24,4 +24,4 @@ loop-to-preserved c =
     )
 
 pub returns : goal.returns
-returns c = written_like _ _ _ _ _ (λ k m. (m.0, m.1, m.2)) (λ k m. (m.0, m.1, m.2, λ h. has_none _ m.0 c.in-default.ensures.0 h)) c.loop-to.invariant.0
+returns c = written_like _ _ _ _ _ (λ k m. (m.0, m.1, m.2)) (λ k m. (m.0, m.1, m.2, λ h. has_none _ m.0 c.in_default.ensures.0 h)) c.loop-to.invariant.0

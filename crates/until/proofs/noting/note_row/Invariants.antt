@@ -1,4 +1,4 @@
-use Rattle.std.proofs.Common.{◌≡◌, ℕ, ◌+◌, ◌<◌, length}
+use Rattle.std.proofs.Common.{◌≡◌, ℕ, ◌+◌}
 use Rattle.model.specs.Sets.{Has}
 use Rattle.until.specs.Notes.{Written}
 use Rattle.until.proofs.noting.note_row.Given as goal

@@ -1,19 +1,18 @@
-use Rattle.std.proofs.Common.{◌≡◌, ℕ, ◌+◌, ◌*◌, ◌/◌, ◌%◌, ◌<◌, ◌≤◌, refl, subst, arith}
-use Rattle.std.proofs.lemmas.Nat.{mod_below}
+use Rattle.std.proofs.Common.{◌+◌, arith}
 use Rattle.until.proofs.Notes.{written_none, written_like, row_written, row_to_below, place_below}
 use Rattle.until.proofs.noting.note_symbol.Goals as goal
 
 pub loop-from-init : goal.loop-from-init
 loop-from-init c = written_none _ _ _ (λ k m. let l = m.1 in absurd (omega arith))
 
-pub note-row-requires : goal.note-row-requires
-note-row-requires c t h =
+pub note_row-requires : goal.note_row-requires
+note_row-requires c t h =
     let to = row_to_below c.args.states c.args.symbol c.loop-from.from _ _ (omega (arith, c.requires.few)) c.loop-from-test.true c.row.ensures c.requires.below t h in
     let place = place_below c.args.states (c.args.symbol + 1) c.args.symbol c.loop-from.from t (omega arith) c.loop-from-test.true to in
     omega (arith, c.requires.room)
 
 pub loop-from-preserved : goal.loop-from-preserved
-loop-from-preserved c = row_written c.args.states c.args.symbol c.loop-from.from _ _ (omega (arith, c.requires.few)) c.loop-from-test.true c.row.ensures c.requires.below _ _ _ _ c.loop-from.invariant c.note-row.ensures
+loop-from-preserved c = row_written c.args.states c.args.symbol c.loop-from.from _ _ (omega (arith, c.requires.few)) c.loop-from-test.true c.row.ensures c.requires.below _ _ _ _ c.loop-from.invariant c.note_row.ensures
 
 pub returns : goal.returns
 returns c = written_like _ _ _ _ _ (λ k m. (m.0, m.2)) (λ k m. (m.0, omega (arith, (c.requires.below _ m.1).1, c.loop-from-test.false), m.1)) c.loop-from.invariant

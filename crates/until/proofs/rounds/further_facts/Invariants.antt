@@ -4,7 +4,7 @@ use Rattle.language.specs.declared.rule.Rule.{Rule}
 use Rattle.model.specs.Relations.{Joined, Upto}
 use Rattle.logic.specs.Facts.{ground}
 use Rattle.until.specs.FactTables.{Holds}
-use Rattle.until.specs.Consequences.{GivesAlone, GivesFresh}
+use Rattle.until.specs.Consequences.{GivesFresh}
 use Rattle.until.proofs.rounds.further_facts.Given as goal
 
 abbrev pub invariant-loop-place : goal.invariant-loop-place

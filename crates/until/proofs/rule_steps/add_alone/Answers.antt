@@ -7,5 +7,5 @@ use Rattle.until.proofs.rule_steps.add_alone.Goals as goal
 
 pub returns-in-Letter : goal.returns-in-Letter
 returns-in-Letter c =
-    subst (λ r. Joined (Holds c.args.found.now.rows) (Holds c.add-led.new.found.rows) (GivesAlone (ground c.args.model.now c.args.guard) r)) (sym c.in-Letter.is)
-    c.add-led.ensures
+    subst (λ r. Joined (Holds c.args.found.now.rows) (Holds c.add_led.new.found.rows) (GivesAlone (ground c.args.model.now c.args.guard) r)) (sym c.in-Letter.is)
+    c.add_led.ensures

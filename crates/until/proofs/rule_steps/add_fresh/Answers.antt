@@ -1,8 +1,5 @@
-use Rattle.std.proofs.Common.{◌≡◌, ◌≤◌, sym, subst}
+use Rattle.std.proofs.Common.{◌≤◌, sym, subst}
 use mathlib.Core.Bool.{false≢true}
-use Rattle.language.specs.declared.rule.Rule.{Rule}
-use Rattle.language.specs.declared.rule.Rule.TheVariants.{Lead, Same, Pair}
-use Rattle.model.specs.declared.number_set.NumberSet.{NumberSet}
 use Rattle.model.specs.Relations.{Joined}
 use Rattle.model.proofs.Joins.{joined_same, joined_both, joined_from}
 use Rattle.logic.specs.Facts.{ground}
@@ -30,18 +27,18 @@ returns-then-has-4 c =
     let all = Holds c.args.all.now.rows in
     let fresh = Holds c.args.fresh.now.rows in
     let first : Joined (Holds c.args.found.now.rows) (Holds c.if-has-3.found.rows) (ByPair c.in-Pair.head c.in-Pair.left c.in-Pair.right fresh all) = elim c.if-has-3.branch [
-      | then-has-3 w ↦ joined_from {D = ByPair c.in-Pair.head c.in-Pair.left c.in-Pair.right fresh all} (λ (t : FactTable). Holds t.rows) (sym w.found-is) w.add-pair.ensures
+      | then-has-3 w ↦ joined_from {D = ByPair c.in-Pair.head c.in-Pair.left c.in-Pair.right fresh all} (λ (t : FactTable). Holds t.rows) (sym w.found-is) w.add_pair.ensures
       | else-has-3 w ↦ joined_from {D = ByPair c.in-Pair.head c.in-Pair.left c.in-Pair.right fresh all} (λ (t : FactTable). Holds t.rows) (sym w.found-is) (joined_same (ByPair c.in-Pair.head c.in-Pair.left c.in-Pair.right fresh all) (λ f m. false≢true (w.if-has-3.ensures.1 (c.requires.live _ m.2))))
     ] in
-    subst (λ r. Joined (Holds c.args.found.now.rows) (Holds c.add-pair-then-has-4.new.found.rows) (GivesFresh (ground c.args.model.now c.args.guard) r all fresh)) (sym c.in-Pair.is)
-    (joined_both (ByPair c.in-Pair.head c.in-Pair.left c.in-Pair.right fresh all) (ByPair c.in-Pair.head c.in-Pair.left c.in-Pair.right all fresh) first c.add-pair-then-has-4.ensures)
+    subst (λ r. Joined (Holds c.args.found.now.rows) (Holds c.add_pair-then-has-4.new.found.rows) (GivesFresh (ground c.args.model.now c.args.guard) r all fresh)) (sym c.in-Pair.is)
+    (joined_both (ByPair c.in-Pair.head c.in-Pair.left c.in-Pair.right fresh all) (ByPair c.in-Pair.head c.in-Pair.left c.in-Pair.right all fresh) first c.add_pair-then-has-4.ensures)
 
 pub returns-else-has-4 : goal.returns-else-has-4
 returns-else-has-4 c =
     let all = Holds c.args.all.now.rows in
     let fresh = Holds c.args.fresh.now.rows in
     let first : Joined (Holds c.args.found.now.rows) (Holds c.if-has-3.found.rows) (ByPair c.in-Pair.head c.in-Pair.left c.in-Pair.right fresh all) = elim c.if-has-3.branch [
-      | then-has-3 w ↦ joined_from {D = ByPair c.in-Pair.head c.in-Pair.left c.in-Pair.right fresh all} (λ (t : FactTable). Holds t.rows) (sym w.found-is) w.add-pair.ensures
+      | then-has-3 w ↦ joined_from {D = ByPair c.in-Pair.head c.in-Pair.left c.in-Pair.right fresh all} (λ (t : FactTable). Holds t.rows) (sym w.found-is) w.add_pair.ensures
       | else-has-3 w ↦ joined_from {D = ByPair c.in-Pair.head c.in-Pair.left c.in-Pair.right fresh all} (λ (t : FactTable). Holds t.rows) (sym w.found-is) (joined_same (ByPair c.in-Pair.head c.in-Pair.left c.in-Pair.right fresh all) (λ f m. false≢true (w.if-has-3.ensures.1 (c.requires.live _ m.2))))
     ] in
     subst (λ r. Joined (Holds c.args.found.now.rows) (Holds c.if-has-3.found.rows) (GivesFresh (ground c.args.model.now c.args.guard) r all fresh)) (sym c.in-Pair.is)
@@ -58,24 +55,24 @@ returns-in-Letter c =
     (joined_same _ (λ f m. m))
 
 pub returns-then-has : goal.returns-then-has
-returns-then-has c = subst (λ r. Joined (Holds c.args.found.now.rows) (Holds c.add-led.new.found.rows) (GivesFresh (ground c.args.model.now c.args.guard) r (Holds c.args.all.now.rows) (Holds c.args.fresh.now.rows))) (sym c.in-Lead.is) c.add-led.ensures
+returns-then-has c = subst (λ r. Joined (Holds c.args.found.now.rows) (Holds c.add_led.new.found.rows) (GivesFresh (ground c.args.model.now c.args.guard) r (Holds c.args.all.now.rows) (Holds c.args.fresh.now.rows))) (sym c.in-Lead.is) c.add_led.ensures
 
 pub returns-then-has-2 : goal.returns-then-has-2
-returns-then-has-2 c = subst (λ r. Joined (Holds c.args.found.now.rows) (Holds c.add-same.new.found.rows) (GivesFresh (ground c.args.model.now c.args.guard) r (Holds c.args.all.now.rows) (Holds c.args.fresh.now.rows))) (sym c.in-Same.is) c.add-same.ensures
+returns-then-has-2 c = subst (λ r. Joined (Holds c.args.found.now.rows) (Holds c.add_same.new.found.rows) (GivesFresh (ground c.args.model.now c.args.guard) r (Holds c.args.all.now.rows) (Holds c.args.fresh.now.rows))) (sym c.in-Same.is) c.add_same.ensures
 
-pub add-led-requires : goal.add-led-requires
-add-led-requires c =
+pub add_led-requires : goal.add_led-requires
+add_led-requires c =
     let w = subst (SymbolsBelow 16) c.in-Lead.is c.requires.rule in
     (w.0, w)
 
-pub add-same-requires : goal.add-same-requires
-add-same-requires c =
+pub add_same-requires : goal.add_same-requires
+add_same-requires c =
     let w = subst (SymbolsBelow 16) c.in-Same.is c.requires.rule in
     let is = sym c.states.ensures in
     (w.0, (w.1, (subst (λ n. n ≤ 32) is c.args.model.now.few_states, subst (λ n. FactsBelow 16 n (Holds c.args.fresh.now.rows)) is c.requires.fresh)))
 
-pub add-pair-requires : goal.add-pair-requires
-add-pair-requires c =
+pub add_pair-requires : goal.add_pair-requires
+add_pair-requires c =
     let w = subst (SymbolsBelow 16) c.in-Pair.is c.requires.rule in
     let is = sym c.states-then-has-3.ensures in
     record {
@@ -84,8 +81,8 @@ add-pair-requires c =
       seconds = subst (λ n. FactsBelow 16 n (Holds c.args.all.now.rows)) is c.requires.all;
     }
 
-pub add-pair-requires-then-has-4 : goal.add-pair-requires-then-has-4
-add-pair-requires-then-has-4 c =
+pub add_pair-requires-then-has-4 : goal.add_pair-requires-then-has-4
+add_pair-requires-then-has-4 c =
     let w = subst (SymbolsBelow 16) c.in-Pair.is c.requires.rule in
     let is = sym c.states-then-has-4.ensures in
     record {

@@ -1,4 +1,4 @@
-use Rattle.std.proofs.Common.{◌≡◌, subst, arith}
+use Rattle.std.proofs.Common.{subst, arith}
 use Rattle.model.specs.Relations.{Exactly}
 use Rattle.model.specs.Sets.{Has}
 use Rattle.model.proofs.Joins.{joined_none, joined_more}

@@ -1,4 +1,4 @@
-use Rattle.std.proofs.Common.{◌≡◌, ℕ, ◌+◌, ◌*◌, get_or, replicate, sym, subst}
+use Rattle.std.proofs.Common.{◌≡◌, ◌+◌, ◌*◌, get_or, replicate, sym, subst}
 use Rattle.model.specs.Sets.{nothing}
 use Rattle.model.proofs.Tables.{get_d_copies}
 use Rattle.until.proofs.Rows.{has_none}

@@ -1,7 +1,4 @@
-use Rattle.std.proofs.Common.{◌≡◌, ℕ, ◌<◌, ◌≤◌, ◌≢◌, length, get_or, set, sym, ◌∙◌, subst, arith, get_or-set_other, get_or-set_same, below_more}
-use Rattle.model.specs.declared.number_set.NumberSet.{NumberSet}
-use Rattle.model.specs.Relations.{Joined}
-use Rattle.model.specs.Sets.{Has, nothing}
+use Rattle.std.proofs.Common.{arith}
 use Rattle.until.proofs.Sizes.{joined_all, row_joined}
 use Rattle.until.proofs.fact_table.FactTable.include.Goals as goal
 

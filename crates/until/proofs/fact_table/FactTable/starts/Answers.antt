@@ -1,6 +1,5 @@
-use Rattle.std.proofs.Common.{◌≡◌, ℕ, ◌<◌, sym, refl, ap, ◌∙◌, subst, arith}
+use Rattle.std.proofs.Common.{◌≡◌, ℕ, sym, refl, ap, ◌∙◌, subst, arith}
 use Rattle.model.specs.declared.number_set.NumberSet.{NumberSet}
-use Rattle.model.specs.Relations.{Joined}
 use Rattle.model.specs.Sets.{Has, nothing}
 use Rattle.model.proofs.Joins.{joined_none, joined_more, joined_like, joined_exact, joined_same, joined_from}
 use Rattle.until.specs.FactTables.{row_of}

@@ -1,4 +1,4 @@
-use Rattle.std.proofs.Common.{◌≡◌, ℕ, ◌<◌}
+use Rattle.std.proofs.Common.{◌≡◌}
 use Rattle.model.specs.Relations.{Joined, Upto}
 use Rattle.model.specs.Sets.{Has, nothing}
 use Rattle.until.specs.FactTables.{row_of}

@@ -1,5 +1,4 @@
-use Rattle.std.proofs.Common.{◌≡◌, sym, ◌∙◌}
-use Rattle.model.specs.Sets.{Has}
+use Rattle.std.proofs.Common.{sym, ◌∙◌}
 use Rattle.until.proofs.Rows.{through_none, through_more, through_all, through_every}
 use Rattle.until.proofs.fact_table.FactTable.through.Goals as goal
 

@@ -1,4 +1,4 @@
-use Rattle.std.proofs.Common.{◌≡◌, ℕ, ◌<◌, ◌≤◌, length, get_or}
+use Rattle.std.proofs.Common.{◌≡◌, ℕ, ◌<◌, length, get_or}
 use Rattle.model.specs.Relations.{Exactly}
 use Rattle.model.specs.Sets.{Has, nothing}
 use Rattle.until.proofs.fact_table.FactTable.without.Given as goal

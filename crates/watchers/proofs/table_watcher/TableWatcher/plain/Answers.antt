@@ -2,27 +2,18 @@ use Rattle.std.proofs.Common.{◌+◌, ◌*◌, ◌<◌, false, sym, refl, subst
 use Rattle.model.proofs.Tables.{get_d_copies}
 use Rattle.watchers.proofs.table_watcher.TableWatcher.plain.Goals as goal
 
-pub invariant-of-result : goal.invariant-of-result
-invariant-of-result c =
-    let some : 0 < c.args.states = omega (arith, c.requires.some-state) in (
-      c.requires.some-state,
-      (
-        c.requires.few-states,
-        (
-          c.requires.some-action,
-          (
-            c.requires.few-actions,
-            (
-              refl,
-              (
-                refl,
-                ((λ k. subst (λ n. n < c.args.states) (sym (get_d_copies 512 0 k)) some), tt),
-              ),
-            ),
-          ),
-        ),
-      ),
-    )
+pub invariant_of-result : goal.invariant_of-result
+invariant_of-result c =
+    let some : 0 < c.args.states = omega (arith, c.requires.some_state) in
+    record {
+      some_state = c.requires.some_state;
+      few_states = c.requires.few_states;
+      some_action = c.requires.some_action;
+      few_actions = c.requires.few_actions;
+      all_nexts = refl;
+      all_marks = refl;
+      inside = λ k. subst (λ n. n < c.args.states) (sym (get_d_copies 512 0 k)) some;
+    }
 
 pub returns : goal.returns
 returns c = record {
