@@ -14,7 +14,7 @@ for edit in misuse/*.edit; do
         at { print substr($0, 1, at - 1) new substr($0, at + length(old)); found++; next }
         { print }
         END { exit found != 1 }' "$file" > "$copy/$file" || { echo "$edit: does not fit"; failed=1; }
-    if said=$(cd "$copy" && rt try cases 2>&1); then
+    if said=$(cd "$copy/crates/cases" && rt try 2>&1); then
         echo "$edit: NOT refused"
         failed=1
     else
