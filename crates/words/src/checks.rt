@@ -7,7 +7,7 @@ use model::Refusal;
 use std::io;
 
 // Why the program ends with an error.
-#[derive(Drop)]
+#[derive(Debug, Drop)]
 pub enum Failure {
     Refused(Refusal),
     Printing(io::Error),
