@@ -1,6 +1,5 @@
 -- Writing out a path, split by split.
-use Rattle.std.proofs.Common.{◌≡◌, ℕ, zero, suc, ◌+◌, ◌-◌, ◌*◌, ◌<◌, ◌≤◌, List, [], ◌∷◌, ◌++◌, reverse, length, get_or, take, drop, set, sym, refl, ap, ◌∙◌, subst, append_assoc, append-nil, arith}
-use mathlib.Core.List.{reverse-append}
+use Rattle.std.proofs.Common.{◌≡◌, ℕ, ◌+◌, ◌-◌, ◌*◌, ◌<◌, ◌≤◌, List, [], ◌∷◌, ◌++◌, reverse, length, take, drop, set, sym, refl, ap, ◌∙◌, subst, append_assoc, append-nil, arith}
 use Rattle.std.proofs.lemmas.List.{take_more_set, drop-set-lt}
 use Rattle.model.specs.declared.edge.Edge.{Edge}
 use Rattle.model.specs.declared.edge.Step.{Step}
@@ -16,7 +15,7 @@ use Rattle.least.specs.Entries.{ground_of, triple, Known, Sound}
 use Rattle.least.proofs.Walking.{word_append, guarded_append, first_edge, edge_inside}
 use Rattle.path.specs.declared.split.Split.{Split}
 use Rattle.path.specs.declared.split.Split.TheVariants.{Last, Onward, Both}
-use Rattle.path.specs.Unfolding.{Spells, Follows, Splits, Doing, laid, wrote, parts, stepped}
+use Rattle.path.specs.Unfolding.{Follows, Splits, Doing, laid, wrote, parts, stepped}
 
 pub parts_length : (f : Fact) (sp : Split) → length (parts f sp) ≡ laid sp
 parts_length f (Last a t) = refl

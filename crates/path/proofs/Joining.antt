@@ -1,5 +1,5 @@
 -- All the elements of a list are done.
-use Rattle.std.proofs.Common.{◌≡◌, ℕ, ◌<◌, ◌≤◌, List, length, Some, arith}
+use Rattle.std.proofs.Common.{◌≡◌, ℕ, ◌≤◌, List, length, Some, arith}
 use Rattle.std.specs.List.{slice_get}
 use Rattle.model.specs.Relations.{Among, Joined, Upto}
 use Rattle.model.proofs.Joins.{joined_like, place_before}

@@ -9,10 +9,10 @@ use Rattle.model.specs.Sets.{Has}
 use Rattle.language.specs.declared.rule.Rule.{Rule}
 use Rattle.language.specs.Rules.{RulesWithin}
 use Rattle.language.specs.Derivations.{Derives}
-use Rattle.logic.specs.Paths.{edge, Chain, Before, Good, end, word}
+use Rattle.logic.specs.Paths.{edge, Chain, Before, end, word}
 use Rattle.logic.specs.Facts.{Ground, ground, Guarded}
 use Rattle.least.specs.declared.scope.Scope.{Scope}
-use Rattle.least.specs.Entries.{ground_of, place, entry_of, In, Known, AtMost, Sound, Closed}
+use Rattle.least.specs.Entries.{ground_of, place, entry_of, AtMost, Sound, Closed}
 use Rattle.least.specs.Lowering.{Run, weight}
 use Rattle.least.proofs.Walking.{guarded_end, edge_inside}
 use Rattle.least.proofs.Least.{least}

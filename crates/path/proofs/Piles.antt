@@ -1,8 +1,8 @@
 -- A pile with room takes what is laid on it.
-use Rattle.std.proofs.Common.{◌≡◌, ℕ, ◌⊎◌, List, [], ◌∷◌, ◌++◌, reverse, Some, None, Ok, Err, Result, sym, refl, ap, ◌∙◌, inl, inr, arith, MatchResult}
+use Rattle.std.proofs.Common.{◌≡◌, ℕ, List, [], ◌∷◌, ◌++◌, reverse, Ok, Err, Result, ap, ◌∙◌, inl, inr, arith, MatchResult}
 use mathlib.Core.List.{reverse-append}
 use Rattle.model.specs.declared.refusal.Refusal.{Refusal}
-use Rattle.model.specs.Refusals.{number, refusal, Refuse, Accept}
+use Rattle.model.specs.Refusals.{refusal, Refuse, Accept}
 
 -- a push that has no cause to be refused is done
 pub accepted : {X : Type 0} (r : Result X Refusal) (full P Q : Type 0) → (full → ⊥) → Refuse full 23 Accept (refusal r) → MatchResult r (λ _. P) (λ _. Q) → P

@@ -1,5 +1,5 @@
 -- A set that has no more numbers than one inside it is that one.
-use Rattle.std.proofs.Common.{◌≡◌, ℕ, zero, suc, ◌+◌, ◌-◌, ◌*◌, ◌/◌, ◌%◌, ◌^◌, ◌<◌, ◌≤◌, sym, refl, ap, ◌∙◌, subst, le_of_eq, add_comm, div-one, add-one, one-add, arith}
+use Rattle.std.proofs.Common.{◌≡◌, ℕ, zero, suc, ◌+◌, ◌-◌, ◌/◌, ◌%◌, ◌^◌, ◌<◌, ◌≤◌, sym, ap, ◌∙◌, subst, le_of_eq, add_comm, div-one, add-one, one-add, arith}
 use mathlib.Core.Path.{transport}
 use native.Mathlib.Nat.{two-pow-succ}
 use native.Mathlib.Decide.{ℕ_discrete}

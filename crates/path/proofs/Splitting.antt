@@ -1,5 +1,5 @@
 -- Ways to a fact from facts with fewer steps, and that there is one.
-use Rattle.std.proofs.Common.{◌≡◌, ℕ, zero, suc, ◌+◌, ◌-◌, ◌*◌, ◌<◌, ◌≤◌, ◌⊎◌, List, [], ◌∷◌, ◌++◌, length, get_or, sym, refl, ap, ◌∙◌, subst, inl, inr, ⊎_elim, append-nil, arith}
+use Rattle.std.proofs.Common.{◌≡◌, ℕ, zero, suc, ◌+◌, ◌-◌, ◌<◌, ◌≤◌, List, [], ◌∷◌, length, get_or, sym, refl, ap, ◌∙◌, subst, inl, inr, ⊎_elim, append-nil, arith}
 use native.Mathlib.Decide.{ℕ_discrete}
 use Rattle.model.specs.declared.edge.Edge.{Edge}
 use Rattle.model.specs.declared.edge.Step.{Step}
@@ -15,8 +15,8 @@ use Rattle.language.specs.Derivations.{Derives}
 use Rattle.logic.specs.Paths.{word}
 use Rattle.logic.specs.Facts.{Triple, Guarded}
 use Rattle.least.specs.declared.scope.Scope.{Scope}
-use Rattle.least.specs.Walks.{WalkWithin, GivesIn, Leads}
-use Rattle.least.specs.Entries.{ground_of, place, entry_of, In, Known, AtMost, Sound, Closed}
+use Rattle.least.specs.Walks.{WalkWithin, GivesIn}
+use Rattle.least.specs.Entries.{ground_of, place, entry_of, In, Known, Sound, Closed}
 use Rattle.least.proofs.Walking.{walk_to, derives_lead, derives_same, derives_pair}
 use Rattle.least.proofs.Least.{least_known}
 use Rattle.path.specs.declared.split.Split.{Split}

@@ -81,8 +81,8 @@ fn reach_once<L: UntilLanguage>(
     worth: u32,
     mask: NumberSet,
 ) -> NumberSet
-    requires { (scope.now.symbols * scope.now.states * scope.now.states ≤ length work.now) × ((RulesWithin scope.now.symbols (rules language.now)) × ((from < scope.now.states) × (to < scope.now.states))) }
-    ensures { Joined (Has mask) (Has result) (λ y. (x : RuleOf) × Among x (rules language.now) × (Has mask (head_of x) × Keeps scope.now work.now from to worth x y)) }
+    requires { (scope.now.symbols * scope.now.states * scope.now.states ≤ length work.now) × ((RulesWithin scope.now.symbols (L.rules language.now)) × ((from < scope.now.states) × (to < scope.now.states))) }
+    ensures { Joined (Has mask) (Has result) (λ y. (x : RuleOf) × Among x (L.rules language.now) × (Has mask (head_of x) × Keeps scope.now work.now from to worth x y)) }
 {
     let mut more = mask;
     for place in 0..language.rule_count() {
@@ -101,10 +101,10 @@ pub fn reach<L: UntilLanguage>(
     fact: Fact,
     worth: u32,
 ) -> NumberSet
-    requires states_in_bounds { (scope.now.symbols * scope.now.states * scope.now.states ≤ length work.now) × ((RulesWithin scope.now.symbols (rules language.now)) × ((In scope.now (triple fact)) × (entry_of scope.now work.now (triple fact) ≡ worth))) }
-    requires sound { Sound scope.now (rules language.now) work.now }
-    ensures reached { Reached scope.now (rules language.now) work.now fact.from fact.to worth fact.symbol result }
-    ensures shut { ReachShut scope.now (rules language.now) work.now fact.from fact.to worth result }
+    requires states_in_bounds { (scope.now.symbols * scope.now.states * scope.now.states ≤ length work.now) × ((RulesWithin scope.now.symbols (L.rules language.now)) × ((In scope.now (triple fact)) × (entry_of scope.now work.now (triple fact) ≡ worth))) }
+    requires sound { Sound scope.now (L.rules language.now) work.now }
+    ensures reached { Reached scope.now (L.rules language.now) work.now fact.from fact.to worth fact.symbol result }
+    ensures shut { ReachShut scope.now (L.rules language.now) work.now fact.from fact.to worth result }
 {
     let mut mask = NumberSet::single(fact.symbol);
     loop {

@@ -93,8 +93,8 @@ fn sweep_level<L: UntilLanguage>(
     top: u32,
     level: u32,
 ) -> bool
-    requires { (Room scope.now top (length work.old)) × (RulesWithin scope.now.symbols (rules language.now)) }
-    ensures sound { Sound scope.now (rules language.now) work.old → Sound scope.now (rules language.now) work.new }
+    requires { (Room scope.now top (length work.old)) × (RulesWithin scope.now.symbols (L.rules language.now)) }
+    ensures sound { Sound scope.now (L.rules language.now) work.old → Sound scope.now (L.rules language.now) work.new }
     ensures lighter { weight work.new ≤ weight work.old }
     ensures more { result ≡ true → weight work.new < weight work.old }
 {
@@ -125,8 +125,8 @@ fn grow<L: UntilLanguage>(
     goal: NumberSet,
     state: u8,
 ) -> u32
-    requires { (Room scope.now top (length work.old)) × ((RulesWithin scope.now.symbols (rules language.now)) × ((0 < scope.now.symbols) × (state < scope.now.states))) }
-    ensures sound { Sound scope.now (rules language.now) work.old → Sound scope.now (rules language.now) work.new }
+    requires { (Room scope.now top (length work.old)) × ((RulesWithin scope.now.symbols (L.rules language.now)) × ((0 < scope.now.symbols) × (state < scope.now.states))) }
+    ensures sound { Sound scope.now (L.rules language.now) work.old → Sound scope.now (L.rules language.now) work.new }
     ensures level { (result ≤ top) × ((result < top → (t : ℕ) × Nearest scope.now work.new goal state result scope.now.states t)) }
 {
     let _ = start(work, language, scope, top);
@@ -151,9 +151,9 @@ fn settled<L: UntilLanguage>(
     goal: NumberSet,
     state: u8,
 ) -> Option<u8>
-    requires { (Room scope.now top (length work.old)) × ((RulesWithin scope.now.symbols (rules language.now)) × ((0 < scope.now.symbols) × (state < scope.now.states))) }
-    ensures sound { Sound scope.now (rules language.now) work.old → Sound scope.now (rules language.now) work.new }
-    ensures closed { Closed scope.now (rules language.now) top work.new }
+    requires { (Room scope.now top (length work.old)) × ((RulesWithin scope.now.symbols (L.rules language.now)) × ((0 < scope.now.symbols) × (state < scope.now.states))) }
+    ensures sound { Sound scope.now (L.rules language.now) work.old → Sound scope.now (L.rules language.now) work.new }
+    ensures closed { Closed scope.now (L.rules language.now) top work.new }
     ensures best { Best scope.now work.new goal state top scope.now.states result }
 {
     settle(work, language, scope, top);
@@ -169,9 +169,9 @@ fn sought<L: UntilLanguage>(
     goal: NumberSet,
     state: u8,
 ) -> Option<u8>
-    requires { (Room scope.now top (length work.old)) × ((RulesWithin scope.now.symbols (rules language.now)) × ((0 < scope.now.symbols) × (state < scope.now.states))) }
-    ensures sound { Sound scope.now (rules language.now) work.new }
-    ensures found { MatchOption result (Closed scope.now (rules language.now) top work.new × Far scope.now work.new goal state top scope.now.states) (λ to. (level : ℕ) × (level ≤ top) × Closed scope.now (rules language.now) level work.new × Nearest scope.now work.new goal state level scope.now.states to) }
+    requires { (Room scope.now top (length work.old)) × ((RulesWithin scope.now.symbols (L.rules language.now)) × ((0 < scope.now.symbols) × (state < scope.now.states))) }
+    ensures sound { Sound scope.now (L.rules language.now) work.new }
+    ensures found { MatchOption result (Closed scope.now (L.rules language.now) top work.new × Far scope.now work.new goal state top scope.now.states) (λ to. (level : ℕ) × (level ≤ top) × Closed scope.now (L.rules language.now) level work.new × Nearest scope.now work.new goal state level scope.now.states to) }
 {
     clear(work, scope.cells());
     let level = grow(work, language, scope, top, goal, state);
@@ -194,10 +194,10 @@ pub fn shortest<L: UntilLanguage>(
     waiting: &mut [Fact],
     steps: &mut [Step],
 ) -> Witness
-    requires sizes { (symbols language.now ≤ 16) × ((length (rules language.now) ≤ 128) × (state < model.now.states)) }
-    requires lent { (symbols language.now * model.now.states * model.now.states ≤ length work.old) × (length steps.old ≤ length waiting.old) }
-    requires marks { Exactly (Has satisfying) (λ s. (s < model.now.states) × SomeGoodFor model.now guard goal (rules language.now) s) }
-    ensures { Shows model.now guard goal (rules language.now) state (min (length steps.old) 4096) steps.old steps.new result }
+    requires sizes { (L.symbols language.now ≤ 16) × ((length (L.rules language.now) ≤ 128) × (state < model.now.states)) }
+    requires lent { (L.symbols language.now * model.now.states * model.now.states ≤ length work.old) × (length steps.old ≤ length waiting.old) }
+    requires marks { Exactly (Has satisfying) (λ s. (s < model.now.states) × SomeGoodFor model.now guard goal (L.rules language.now) s) }
+    ensures { Shows model.now guard goal (L.rules language.now) state (min (length steps.old) 4096) steps.old steps.new result }
 {
     if !satisfying.has(state) {
         return Witness::Nothing;

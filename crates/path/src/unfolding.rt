@@ -42,10 +42,10 @@ fn shrink_in(
 
 // How the fact comes from facts with fewer steps.
 fn split<L: UntilLanguage>(work: &[u32], language: &L, scope: &Scope, fact: Fact) -> Split
-    requires sizes { (scope.now.symbols * scope.now.states * scope.now.states ≤ length work.now) × (RulesWithin scope.now.symbols (rules language.now)) }
-    requires sound { Sound scope.now (rules language.now) work.now }
-    requires known { (n : ℕ) × (top : ℕ) × (0 < n) × (n < top) × (n < 4097) × Closed scope.now (rules language.now) top work.now × Known scope.now work.now (triple fact) n }
-    ensures { (n : ℕ) → Known scope.now work.now (triple fact) n → Splits scope.now (rules language.now) work.now fact n result }
+    requires sizes { (scope.now.symbols * scope.now.states * scope.now.states ≤ length work.now) × (RulesWithin scope.now.symbols (L.rules language.now)) }
+    requires sound { Sound scope.now (L.rules language.now) work.now }
+    requires known { (n : ℕ) × (top : ℕ) × (0 < n) × (n < top) × (n < 4097) × Closed scope.now (L.rules language.now) top work.now × Known scope.now work.now (triple fact) n }
+    ensures { (n : ℕ) → Known scope.now work.now (triple fact) n → Splits scope.now (L.rules language.now) work.now fact n result }
 {
     let worth = work[scope.cell(fact.symbol, fact.from, fact.to)];
     let mask = reach(work, language, scope, fact, worth);
@@ -117,12 +117,12 @@ pub fn unfold<L: UntilLanguage>(
     fact: Fact,
     count: usize,
 )
-    requires sizes { (scope.now.symbols * scope.now.states * scope.now.states ≤ length work.now) × (RulesWithin scope.now.symbols (rules language.now)) }
+    requires sizes { (scope.now.symbols * scope.now.states * scope.now.states ≤ length work.now) × (RulesWithin scope.now.symbols (L.rules language.now)) }
     requires lengths { (count ≤ length steps.old) × ((count ≤ length waiting.old) × (count < 4097)) }
-    requires sound { Sound scope.now (rules language.now) work.now }
-    requires known { (top : ℕ) × (count < top) × Closed scope.now (rules language.now) top work.now × Known scope.now work.now (triple fact) count }
+    requires sound { Sound scope.now (L.rules language.now) work.now }
+    requires known { (top : ℕ) × (count < top) × Closed scope.now (L.rules language.now) top work.now × Known scope.now work.now (triple fact) count }
     ensures guarded { Guarded (ground_of scope.now) fact.from (take count steps.new) fact.to }
-    ensures derived { Derives (rules language.now) fact.symbol (word_of (ground_of scope.now).model (take count steps.new)) }
+    ensures derived { Derives (L.rules language.now) fact.symbol (word_of (ground_of scope.now).model (take count steps.new)) }
     ensures others { drop count steps.new ≡ drop count steps.old }
 {
     if count == 0 {

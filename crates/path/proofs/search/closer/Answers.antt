@@ -1,4 +1,4 @@
-use Rattle.std.proofs.Common.{◌-◌, ◌≢◌, get_or, ap, subst, arith}
+use Rattle.std.proofs.Common.{get_or, ap, subst, arith}
 use mathlib.Core.Bool.{false≢true}
 use Rattle.least.proofs.Turns.{is_in, in_cells}
 use Rattle.path.specs.Witnesses.{Best}

@@ -1,4 +1,4 @@
-use Rattle.std.proofs.Common.{◌-◌, ◌≤◌}
+use Rattle.std.proofs.Common.{◌≤◌}
 use Rattle.path.proofs.search.count_at.Given as goal
 
 abbrev pub invariant-loop-known : goal.invariant-loop-known

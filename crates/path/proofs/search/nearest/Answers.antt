@@ -1,4 +1,4 @@
-use Rattle.std.proofs.Common.{◌-◌, arith}
+use Rattle.std.proofs.Common.{arith}
 use Rattle.path.proofs.Nearest.{best_fewer}
 use Rattle.path.proofs.search.nearest.Goals as goal
 

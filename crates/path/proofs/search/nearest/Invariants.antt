@@ -1,4 +1,3 @@
-use Rattle.std.proofs.Common.{◌-◌}
 use Rattle.path.specs.Witnesses.{Best}
 use Rattle.path.proofs.search.nearest.Given as goal
 

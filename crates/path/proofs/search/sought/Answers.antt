@@ -1,4 +1,4 @@
-use Rattle.std.proofs.Common.{◌-◌, ◌<◌, sym, subst}
+use Rattle.std.proofs.Common.{◌<◌, sym, subst}
 use Rattle.path.proofs.Nearest.{sound_none, found_either}
 use Rattle.path.proofs.search.sought.Goals as goal
 

@@ -1,4 +1,3 @@
-use Rattle.std.proofs.Common.{◌-◌, ◌≢◌}
 use Rattle.path.proofs.Nearest.{lighter}
 use Rattle.path.proofs.search.sweep_level.Goals as goal
 

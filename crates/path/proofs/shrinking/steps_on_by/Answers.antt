@@ -1,4 +1,3 @@
-use Rattle.std.proofs.Common.{◌-◌}
 use Rattle.least.proofs.Turns.{is_in, ends_in, in_cells}
 use Rattle.path.proofs.shrinking.steps_on_by.Goals as goal
 

@@ -1,4 +1,3 @@
-use Rattle.std.proofs.Common.{◌-◌}
 use Rattle.least.proofs.Turns.{is_in, in_cells}
 use Rattle.path.proofs.shrinking.sums_by.Goals as goal
 

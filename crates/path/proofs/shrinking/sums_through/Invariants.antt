@@ -1,4 +1,4 @@
-use Rattle.std.proofs.Common.{ℕ, ◌-◌, ◌<◌}
+use Rattle.std.proofs.Common.{ℕ, ◌<◌}
 use Rattle.path.specs.Unfolding.{Sums}
 use Rattle.path.proofs.shrinking.sums_through.Given as goal
 

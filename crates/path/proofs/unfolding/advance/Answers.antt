@@ -1,5 +1,5 @@
-use Rattle.std.proofs.Common.{◌≡◌, ◌+◌, ◌-◌, [], ◌∷◌, ◌++◌, length, sym, ap, ◌∙◌, append_assoc, arith, length-append}
-use Rattle.pile.specs.Items.{items, room}
+use Rattle.std.proofs.Common.{◌≡◌, [], ◌∷◌, ◌++◌, length, sym, ap, ◌∙◌, append_assoc, arith, length-append}
+use Rattle.pile.specs.Items.{items}
 use Rattle.path.specs.Unfolding.{laid, wrote, parts, stepped}
 use Rattle.path.proofs.Piles.{accepted}
 use Rattle.path.proofs.unfolding.advance.Goals as goal

@@ -1,6 +1,5 @@
-use Rattle.std.proofs.Common.{◌≡◌, ◌+◌, ◌-◌, [], ◌∷◌, reverse, length, sym, refl, ap, ◌∙◌, subst, arith, length-append}
+use Rattle.std.proofs.Common.{◌≡◌, ◌+◌, [], ◌∷◌, reverse, length, sym, refl, ap, ◌∙◌, subst, arith, length-append}
 use Rattle.std.proofs.lemmas.List.{length-reverse}
-use Rattle.least.specs.Entries.{place}
 use Rattle.pile.specs.Items.{items, room}
 use Rattle.path.specs.Unfolding.{Doing, wrote, parts, stepped}
 use Rattle.path.proofs.Doing.{doing_start, doing_more, doing_end, turn, parts_length, zero_path}
@@ -61,6 +60,6 @@ loop-next-preserved g c =
 
 pub returns : goal.returns
 returns g c =
-    let d = subst (λ fs. Doing c.args.scope.now (g.L.UntilLanguage.rules c.args.language.now) c.args.work.now c.args.fact c.args.count c.args.steps.now fs c.loop-next.steps c.loop-next.written) (ap reverse c.in-default.ensures.items.0) c.loop-next.invariant.0 in
+    let d = subst (λ fs. Doing c.args.scope.now (g.L.UntilLanguage.rules c.args.language.now) c.args.work.now c.args.fact c.args.count c.args.steps.now fs c.loop-next.steps c.loop-next.written) (ap reverse c.in_default.ensures.items.0) c.loop-next.invariant.0 in
     let (a, b, o) = doing_end c.args.scope.now (g.L.UntilLanguage.rules c.args.language.now) c.args.work.now c.args.fact c.args.count c.args.steps.now c.loop-next.steps c.loop-next.written d in
     record { guarded = a; derived = b; others = o }
