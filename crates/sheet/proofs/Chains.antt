@@ -4,7 +4,7 @@ use Rattle.std.proofs.lemmas.Bool.{cases_lt}
 use Rattle.model.specs.declared.edge.Step.{Step}
 use Rattle.model.specs.declared.model.Model.{Model}
 use Rattle.model.specs.Refusals.{Refuse, Accept}
-use Rattle.sheet.specs.Causes.{CauseNot, CauseOr, CausePath, CauseUntil, CauseRelease, Told, TooLong, limit}
+use Rattle.sheet.specs.Causes.{CauseNot, CausePath, CauseUntil, CauseRelease, Told, TooLong, limit}
 use Rattle.language.specs.Tables.{Table}
 
 pub none_some : {A : Type 0} {n : ℕ} → ◌≡◌ {A = Option ℕ} None (Some n) → A

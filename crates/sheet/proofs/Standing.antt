@@ -1,5 +1,5 @@
 -- A sheet that stands under a book stands under the longer book after a question is added.
-use Rattle.std.proofs.Common.{◌≡◌, ℕ, ◌+◌, ◌<◌, ◌≤◌, ◌⊎◌, List, [], ◌∷◌, ◌++◌, length, get_or, Some, None, Ok, Err, Option, sym, refl, ap, ◌∙◌, subst, inl, inr, arith}
+use Rattle.std.proofs.Common.{◌≡◌, ℕ, ◌+◌, ◌<◌, [], ◌∷◌, ◌++◌, length, Some, None, Ok, Err, Option, sym, refl, ap, ◌∙◌, subst, inl, inr, arith}
 use Rattle.std.proofs.lemmas.List.{length_push, get_or_push, get_or_append_left}
 use Rattle.std.proofs.lemmas.Bool.{cases_lt}
 use Rattle.model.specs.declared.number_set.NumberSet.{NumberSet}
@@ -7,7 +7,7 @@ use Rattle.model.specs.declared.refusal.Refusal.{Refusal}
 use Rattle.model.specs.Refusals.{number}
 use Rattle.model.specs.Relations.{Exactly}
 use Rattle.model.specs.Sets.{Has}
-use Rattle.logic.specs.Formulas.{Formula, proposition, neg, or, until, release}
+use Rattle.logic.specs.Formulas.{Formula, neg, or, until, release}
 use Rattle.sheet.specs.declared.sheet.Sheet.{Sheet}
 use Rattle.sheet.specs.declared.question.Question.{Question}
 use Rattle.sheet.specs.declared.question.Questions.{Questions}
@@ -15,7 +15,7 @@ use Rattle.sheet.specs.declared.question.Form.{Form}
 use Rattle.sheet.specs.declared.question.Form.TheVariants.{Proposition, Not, Or, Until, Release}
 use Rattle.sheet.specs.Orders.{at, Part, Added}
 use Rattle.sheet.specs.Books.{Book, formula, Reads, Marks, Stands, model_of}
-use Rattle.sheet.specs.Asking.{Asks, Right, Asked}
+use Rattle.sheet.specs.Asking.{Right, Asked}
 
 -- what holds of each question and of the new one holds of each after it is added
 each_more : (P : ℕ → Question → Type 0) (before after : Questions) (x : Question) → Added before after x → ((k : ℕ) → k < before.count → P k (at before k)) → P before.count x → (k : ℕ) → k < after.count → P k (at after k)

@@ -1,5 +1,5 @@
 -- A path call that is right for one account of the good paths is right for every other that agrees with it.
-use Rattle.std.proofs.Common.{◌≡◌, ℕ, ◌<◌, ◌≤◌, min, List, length, take, drop, Some, None, Ok, Err, Option, Result, sym, refl, subst, inl, inr, arith, MatchResult}
+use Rattle.std.proofs.Common.{◌≡◌, ℕ, ◌<◌, ◌≤◌, List, length, take, drop, Some, None, Ok, Err, Option, Result, sym, refl, subst, inl, inr, arith, MatchResult}
 use Rattle.std.proofs.lemmas.List.{length-take}
 use Rattle.model.specs.declared.edge.Step.{Step}
 use Rattle.model.specs.declared.model.Model.{Model}
@@ -13,7 +13,7 @@ use Rattle.logic.specs.Paths.{Good}
 use Rattle.logic.proofs.Mapping.{good_map}
 use Rattle.sheet.specs.declared.sheet.Sheet.{Sheet}
 use Rattle.sheet.specs.Orders.{at}
-use Rattle.sheet.specs.Books.{Book, formula, model_of, Stands}
+use Rattle.sheet.specs.Books.{formula, model_of}
 use Rattle.model.specs.declared.refusal.Refusal.TheVariants.{PathTooLong}
 use Rattle.sheet.specs.Causes.{Told, TooLong, CausePath, limit}
 use Rattle.sheet.specs.Witnesses.{Shows, Answered, Witnessed, GoodByMarks, GoodByBook}

@@ -1,5 +1,5 @@
 -- What a path call answers, and what it leaves in the lent memory.
-use Rattle.std.specs.Prelude.{◌≡◌, ℕ, ◌<◌, ◌≤◌, ◌≢◌, List, length, take, drop, IfErr, Some, None, Option, Result, MatchResult}
+use Rattle.std.specs.Prelude.{◌≡◌, ℕ, ◌≤◌, ◌≢◌, List, length, take, drop, IfErr, Some, None, Option, Result, MatchResult}
 use Rattle.model.specs.declared.edge.Step.{Step}
 use Rattle.model.specs.declared.model.Model.{Model}
 use Rattle.model.specs.declared.refusal.Refusal.{Refusal}

@@ -1,4 +1,4 @@
-use Rattle.std.proofs.Common.{◌≡◌, ℕ, ◌<◌, ◌≤◌, sym, refl, ap, ◌∙◌, subst, inl, inr, arith}
+use Rattle.std.proofs.Common.{◌≡◌, ◌<◌, refl, ap, ◌∙◌, subst}
 use Rattle.model.specs.declared.number_set.NumberSet.{NumberSet}
 use Rattle.model.specs.Relations.{Exactly}
 use Rattle.model.specs.Sets.{Has}
@@ -16,7 +16,7 @@ returns c =
     let q = c.args.q in
     let a : NumberSet = (at sheet.questions q).marks in
     let x : NumberSet = c.without-marks.result in
-    let free = c.in-ok-check-not.ensures in
+    let free = c.in_ok-check_not.ensures in
     let same : c.marks.result ≡ a = c.marks.ensures ∙ ap (λ y. y.marks) c.get.ensures in
     let all : Exactly (Has c.below.result) (λ t. (t < m.states) × (t < 32)) = subst (λ n. Exactly (Has c.below.result) (λ t. (t < n) × (t < 32))) c.states.ensures c.below.ensures in
     let exact = without_exact m.states c.below.result a x m.few_states all (subst (λ y. Exactly (Has x) (λ t. Has c.below.result t × (Has y t → ⊥))) same c.without-marks.ensures) in

@@ -1,6 +1,6 @@
-use Rattle.std.proofs.Common.{◌≡◌, ℕ, ◌<◌, ◌≤◌, ◌⊎◌, sym, refl, ap, ◌∙◌, subst}
+use Rattle.std.proofs.Common.{◌≡◌, refl, ap, ◌∙◌, subst}
 use Rattle.model.specs.declared.number_set.NumberSet.{NumberSet}
-use Rattle.model.specs.Relations.{Exactly, Joined}
+use Rattle.model.specs.Relations.{Joined}
 use Rattle.model.specs.Sets.{Has}
 use Rattle.sheet.specs.Books.{model_of, formula}
 use Rattle.sheet.specs.Orders.{at}
@@ -16,7 +16,7 @@ returns c =
     let a : NumberSet = (at sheet.questions c.args.left).marks in
     let b : NumberSet = (at sheet.questions c.args.right).marks in
     let x : NumberSet = c.union-marks.result in
-    let free = c.in-ok-check-or.ensures in
+    let free = c.in_ok-check_or.ensures in
     let there = parts_there sheet.questions.count c.args.left c.args.right free in
     let left : c.marks.result ≡ a = c.marks.ensures ∙ ap (λ y. y.marks) c.get.ensures in
     let right : c.marks-2.result ≡ b = c.marks-2.ensures ∙ ap (λ y. y.marks) c.get-2.ensures in

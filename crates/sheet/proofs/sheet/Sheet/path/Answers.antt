@@ -1,4 +1,4 @@
-use Rattle.std.proofs.Common.{◌≡◌, ◌≤◌, refl, ap, ◌∙◌, arith}
+use Rattle.std.proofs.Common.{refl, ap, ◌∙◌, arith}
 use Rattle.std.proofs.lemmas.Result.{err_from_is_err_and}
 use Rattle.sheet.specs.Books.{model_of}
 use Rattle.sheet.specs.Causes.{Told, told}
@@ -6,14 +6,14 @@ use Rattle.sheet.proofs.Chains.{searchable}
 use Rattle.sheet.proofs.Witnessing.{witnessed_stopped, witnessed_none, witnessed_steps, witnessed_long}
 use Rattle.sheet.proofs.sheet.Sheet.path.Goals as goal
 
-pub returns-in-err-check-path : goal.returns-in-err-check-path
-returns-in-err-check-path g c =
-    let p = err_from_is_err_and c.from-residual.result c.from-residual.ensures.1 in
-    rw (p.1, p.2) (record { answer = witnessed_stopped _ _ _ _ _ _ _ _ _ _ _ c.in-err-check-path.ensures refl; scratch = λ _. (refl, refl) })
+pub returns-in_err-check_path : goal.returns-in_err-check_path
+returns-in_err-check_path g c =
+    let p = err_from_is_err_and c.from_residual.result c.from_residual.ensures.1 in
+    rw (p.1, p.2) (record { answer = witnessed_stopped _ _ _ _ _ _ _ _ _ _ _ c.in_err-check_path.ensures refl; scratch = λ _. (refl, refl) })
 
 pub shortest-requires : goal.shortest-requires
 shortest-requires g c =
-    let free = c.in-ok-check-path.ensures in
+    let free = c.in_ok-check_path.ensures in
     let language = c.args.language.now in
     let tells : Told = told (g.L.Alphabet.known language) (g.L.UntilLanguage.symbols language) (g.L.UntilLanguage.rules language) in
     let may = searchable (model_of c.args.self.now) tells _ _ _ _ _ _ _ free in
@@ -25,7 +25,7 @@ shortest-requires g c =
 
 pub returns-in-Nothing : goal.returns-in-Nothing
 returns-in-Nothing g c =
-    let free = c.in-ok-check-path.ensures in
+    let free = c.in_ok-check_path.ensures in
     let language = c.args.language.now in
     let tells : Told = told (g.L.Alphabet.known language) (g.L.UntilLanguage.symbols language) (g.L.UntilLanguage.rules language) in
     let may = searchable (model_of c.args.self.now) tells _ _ _ _ _ _ _ free in
@@ -39,7 +39,7 @@ returns-in-Nothing g c =
 
 pub returns-in-Steps : goal.returns-in-Steps
 returns-in-Steps g c =
-    let free = c.in-ok-check-path.ensures in
+    let free = c.in_ok-check_path.ensures in
     let language = c.args.language.now in
     let tells : Told = told (g.L.Alphabet.known language) (g.L.UntilLanguage.symbols language) (g.L.UntilLanguage.rules language) in
     let may = searchable (model_of c.args.self.now) tells _ _ _ _ _ _ _ free in
@@ -53,7 +53,7 @@ returns-in-Steps g c =
 
 pub returns-in-TooLong : goal.returns-in-TooLong
 returns-in-TooLong g c =
-    let free = c.in-ok-check-path.ensures in
+    let free = c.in_ok-check_path.ensures in
     let language = c.args.language.now in
     let tells : Told = told (g.L.Alphabet.known language) (g.L.UntilLanguage.symbols language) (g.L.UntilLanguage.rules language) in
     let may = searchable (model_of c.args.self.now) tells _ _ _ _ _ _ _ free in

@@ -7,5 +7,5 @@ use Rattle.sheet.proofs.sheet.Sheet.proposition.Goals as goal
 pub returns : goal.returns
 returns c =
     let exact = c.labelled-marks.ensures in
-    asked _ _ _ _ _ _ c.labelled-marks.result _ c.in-ok-check-proposition.ensures c.add.ensures.number c.add.ensures.model c.add.ensures.added exact
+    asked _ _ _ _ _ _ c.labelled-marks.result _ c.in_ok-check_proposition.ensures c.add.ensures.number c.add.ensures.model c.add.ensures.added exact
     (λ book st. marks_proposition (model_of c.args.self.now) c.args.p c.labelled-marks.result exact) (λ _. refl)

@@ -1,4 +1,4 @@
-use Rattle.std.proofs.Common.{◌≡◌, ℕ, ◌<◌, ◌≤◌, sym, refl, ap, ◌∙◌, subst}
+use Rattle.std.proofs.Common.{◌≡◌, ◌<◌, refl, ap, ◌∙◌, subst}
 use Rattle.std.proofs.lemmas.Result.{err_from_is_err_and}
 use Rattle.model.specs.declared.number_set.NumberSet.{NumberSet}
 use Rattle.model.specs.Relations.{Exactly}
@@ -12,10 +12,10 @@ use Rattle.sheet.proofs.Standing.{asked, asked_refused}
 use Rattle.sheet.proofs.Marking.{marks_release}
 use Rattle.sheet.proofs.sheet.Sheet.release.Goals as goal
 
-pub returns-in-err-check-release : goal.returns-in-err-check-release
-returns-in-err-check-release g c =
-    let p = err_from_is_err_and c.from-residual.result c.from-residual.ensures.1 in
-    rw (p.1, p.2) (asked_refused _ _ _ _ _ _ c.in-err-check-release.ensures)
+pub returns-in_err-check_release : goal.returns-in_err-check_release
+returns-in_err-check_release g c =
+    let p = err_from_is_err_and c.from_residual.result c.from_residual.ensures.1 in
+    rw (p.1, p.2) (asked_refused _ _ _ _ _ _ c.in_err-check_release.ensures)
 
 pub returns : goal.returns
 returns g c =
@@ -28,7 +28,7 @@ returns g c =
     let a : NumberSet = (at sheet.questions freeing).marks in
     let b : NumberSet = (at sheet.questions kept).marks in
     let x : NumberSet = c.keeping-marks.result in
-    let free = c.in-ok-check-release.ensures in
+    let free = c.in_ok-check_release.ensures in
     let there = release_parts m _ t freeing kept sheet.questions.count free in
     let left : c.marks-frees.result ≡ a = c.marks-frees.ensures ∙ ap (λ y. y.marks) c.get.ensures in
     let right : c.marks-keeps.result ≡ b = c.marks-keeps.ensures ∙ ap (λ y. y.marks) c.get-2.ensures in

@@ -1,4 +1,4 @@
-use Rattle.std.proofs.Common.{◌≡◌, ℕ, ◌<◌, ◌≤◌, ◌⊎◌, sym, refl, ap, ◌∙◌, subst, inl, inr}
+use Rattle.std.proofs.Common.{◌≡◌, ◌<◌, refl, ap, ◌∙◌, subst}
 use Rattle.std.proofs.lemmas.Result.{err_from_is_err_and}
 use Rattle.model.specs.declared.number_set.NumberSet.{NumberSet}
 use Rattle.model.specs.Relations.{Exactly}
@@ -12,10 +12,10 @@ use Rattle.sheet.proofs.Standing.{asked, asked_refused}
 use Rattle.sheet.proofs.Marking.{marks_until}
 use Rattle.sheet.proofs.sheet.Sheet.until.Goals as goal
 
-pub returns-in-err-check-until : goal.returns-in-err-check-until
-returns-in-err-check-until g c =
-    let p = err_from_is_err_and c.from-residual.result c.from-residual.ensures.1 in
-    rw (p.1, p.2) (record { asked = asked_refused _ _ _ _ _ _ c.in-err-check-until.ensures; work = refl })
+pub returns-in_err-check_until : goal.returns-in_err-check_until
+returns-in_err-check_until g c =
+    let p = err_from_is_err_and c.from_residual.result c.from_residual.ensures.1 in
+    rw (p.1, p.2) (record { asked = asked_refused _ _ _ _ _ _ c.in_err-check_until.ensures; work = refl })
 
 pub returns : goal.returns
 returns g c =
@@ -27,7 +27,7 @@ returns g c =
     let a : NumberSet = (at sheet.questions guard).marks in
     let b : NumberSet = (at sheet.questions goal).marks in
     let x : NumberSet = c.satisfying-marks.result in
-    let free = c.in-ok-check-until.ensures in
+    let free = c.in_ok-check_until.ensures in
     let there = until_parts m _ _ guard goal sheet.questions.count free in
     let left : c.marks-holds.result ≡ a = c.marks-holds.ensures ∙ ap (λ y. y.marks) c.get.ensures in
     let right : c.marks-reached.result ≡ b = c.marks-reached.ensures ∙ ap (λ y. y.marks) c.get-2.ensures in
