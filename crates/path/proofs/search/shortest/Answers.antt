@@ -9,27 +9,27 @@ use Rattle.path.proofs.search.shortest.Goals as goal
 
 pub sought-requires : goal.sought-requires
 sought-requires g c =
-    let f = fitting c.new-scope.result c.args.model.now c.args.guard (g.L.UntilLanguage.rules c.args.language.now) _ (length c.args.work.now) c.new-scope.ensures.ground (c.new-scope.ensures.symbols ∙ c.symbol_count.ensures) c.requires.lent.0 (g.met.L.UntilLanguage.symbols_known _ c.requires.sizes.0 c.requires.sizes.1.0) (g.met.L.UntilLanguage.some_symbol _ c.requires.sizes.0 c.requires.sizes.1.0) in
+    let f = fitting c.new-scope.result c.args.model.now _ (g.L.UntilLanguage.rules c.args.language.now) _ (length c.args.work.now) c.new-scope.ensures.ground (c.new-scope.ensures.symbols ∙ c.symbol_count.ensures) c.requires.lent.0 (g.met.L.UntilLanguage.symbols_known _ c.requires.sizes.0 c.requires.sizes.1.0) (g.met.L.UntilLanguage.some_symbol _ c.requires.sizes.0 c.requires.sizes.1.0) in
     let inside : c.args.state < c.new-scope.result.states = omega (arith, f.states, c.requires.sizes.1.1) in
     (record { low = omega (arith, c.min.ensures); cells = f.cells }, (f.in_rules, (f.some, inside)))
 
 pub cell-requires : goal.cell-requires
 cell-requires g c =
-    let f = fitting c.new-scope.result c.args.model.now c.args.guard (g.L.UntilLanguage.rules c.args.language.now) _ (length c.args.work.now) c.new-scope.ensures.ground (c.new-scope.ensures.symbols ∙ c.symbol_count.ensures) c.requires.lent.0 (g.met.L.UntilLanguage.symbols_known _ c.requires.sizes.0 c.requires.sizes.1.0) (g.met.L.UntilLanguage.some_symbol _ c.requires.sizes.0 c.requires.sizes.1.0) in
+    let f = fitting c.new-scope.result c.args.model.now _ (g.L.UntilLanguage.rules c.args.language.now) _ (length c.args.work.now) c.new-scope.ensures.ground (c.new-scope.ensures.symbols ∙ c.symbol_count.ensures) c.requires.lent.0 (g.met.L.UntilLanguage.symbols_known _ c.requires.sizes.0 c.requires.sizes.1.0) (g.met.L.UntilLanguage.some_symbol _ c.requires.sizes.0 c.requires.sizes.1.0) in
     let inside : c.args.state < c.new-scope.result.states = omega (arith, f.states, c.requires.sizes.1.1) in
     let (level, low, closed, near) = c.in-Some.ensures.found in
     is_in c.new-scope.result _ _ _ f.some inside near.there
 
 pub bounds-work-cell : goal.bounds-work-cell
 bounds-work-cell g c =
-    let f = fitting c.new-scope.result c.args.model.now c.args.guard (g.L.UntilLanguage.rules c.args.language.now) _ (length c.args.work.now) c.new-scope.ensures.ground (c.new-scope.ensures.symbols ∙ c.symbol_count.ensures) c.requires.lent.0 (g.met.L.UntilLanguage.symbols_known _ c.requires.sizes.0 c.requires.sizes.1.0) (g.met.L.UntilLanguage.some_symbol _ c.requires.sizes.0 c.requires.sizes.1.0) in
+    let f = fitting c.new-scope.result c.args.model.now _ (g.L.UntilLanguage.rules c.args.language.now) _ (length c.args.work.now) c.new-scope.ensures.ground (c.new-scope.ensures.symbols ∙ c.symbol_count.ensures) c.requires.lent.0 (g.met.L.UntilLanguage.symbols_known _ c.requires.sizes.0 c.requires.sizes.1.0) (g.met.L.UntilLanguage.some_symbol _ c.requires.sizes.0 c.requires.sizes.1.0) in
     let inside : c.args.state < c.new-scope.result.states = omega (arith, f.states, c.requires.sizes.1.1) in
     let (level, low, closed, near) = c.in-Some.ensures.found in
     in_cells c.new-scope.result _ _ _ (omega (arith, f.cells, c.sought.auto.work)) (is_in c.new-scope.result _ _ _ f.some inside near.there) c.cell.ensures
 
 pub unfold-requires : goal.unfold-requires
 unfold-requires g c =
-    let f = fitting c.new-scope.result c.args.model.now c.args.guard (g.L.UntilLanguage.rules c.args.language.now) _ (length c.args.work.now) c.new-scope.ensures.ground (c.new-scope.ensures.symbols ∙ c.symbol_count.ensures) c.requires.lent.0 (g.met.L.UntilLanguage.symbols_known _ c.requires.sizes.0 c.requires.sizes.1.0) (g.met.L.UntilLanguage.some_symbol _ c.requires.sizes.0 c.requires.sizes.1.0) in
+    let f = fitting c.new-scope.result c.args.model.now _ (g.L.UntilLanguage.rules c.args.language.now) _ (length c.args.work.now) c.new-scope.ensures.ground (c.new-scope.ensures.symbols ∙ c.symbol_count.ensures) c.requires.lent.0 (g.met.L.UntilLanguage.symbols_known _ c.requires.sizes.0 c.requires.sizes.1.0) (g.met.L.UntilLanguage.some_symbol _ c.requires.sizes.0 c.requires.sizes.1.0) in
     let inside : c.args.state < c.new-scope.result.states = omega (arith, f.states, c.requires.sizes.1.1) in
     let (level, low, closed, near) = c.in-Some.ensures.found in
     let at = ap (λ x. get_or c.sought.new.work x 0) c.cell.ensures in
@@ -45,7 +45,7 @@ returns-then-not-has g c = ((λ good. false≢true (c.if-not-has.ensures.1 ((c.r
 
 pub returns-in-None : goal.returns-in-None
 returns-in-None g c =
-    let f = fitting c.new-scope.result c.args.model.now c.args.guard (g.L.UntilLanguage.rules c.args.language.now) _ (length c.args.work.now) c.new-scope.ensures.ground (c.new-scope.ensures.symbols ∙ c.symbol_count.ensures) c.requires.lent.0 (g.met.L.UntilLanguage.symbols_known _ c.requires.sizes.0 c.requires.sizes.1.0) (g.met.L.UntilLanguage.some_symbol _ c.requires.sizes.0 c.requires.sizes.1.0) in
+    let f = fitting c.new-scope.result c.args.model.now _ (g.L.UntilLanguage.rules c.args.language.now) _ (length c.args.work.now) c.new-scope.ensures.ground (c.new-scope.ensures.symbols ∙ c.symbol_count.ensures) c.requires.lent.0 (g.met.L.UntilLanguage.symbols_known _ c.requires.sizes.0 c.requires.sizes.1.0) (g.met.L.UntilLanguage.some_symbol _ c.requires.sizes.0 c.requires.sizes.1.0) in
     let inside : c.args.state < c.new-scope.result.states = omega (arith, f.states, c.requires.sizes.1.1) in
     let (closed, far) = c.in-None.ensures.found in (
       ((c.requires.marks _).0 (c.if-not-has.ensures.0 refl)).1,
@@ -55,7 +55,7 @@ returns-in-None g c =
 
 pub returns-in-Some : goal.returns-in-Some
 returns-in-Some g c =
-    let f = fitting c.new-scope.result c.args.model.now c.args.guard (g.L.UntilLanguage.rules c.args.language.now) _ (length c.args.work.now) c.new-scope.ensures.ground (c.new-scope.ensures.symbols ∙ c.symbol_count.ensures) c.requires.lent.0 (g.met.L.UntilLanguage.symbols_known _ c.requires.sizes.0 c.requires.sizes.1.0) (g.met.L.UntilLanguage.some_symbol _ c.requires.sizes.0 c.requires.sizes.1.0) in
+    let f = fitting c.new-scope.result c.args.model.now _ (g.L.UntilLanguage.rules c.args.language.now) _ (length c.args.work.now) c.new-scope.ensures.ground (c.new-scope.ensures.symbols ∙ c.symbol_count.ensures) c.requires.lent.0 (g.met.L.UntilLanguage.symbols_known _ c.requires.sizes.0 c.requires.sizes.1.0) (g.met.L.UntilLanguage.some_symbol _ c.requires.sizes.0 c.requires.sizes.1.0) in
     let inside : c.args.state < c.new-scope.result.states = omega (arith, f.states, c.requires.sizes.1.1) in
     let (level, low, closed, near) = c.in-Some.ensures.found in
     let at = ap (λ x. get_or c.sought.new.work x 0) c.cell.ensures in
