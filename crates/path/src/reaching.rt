@@ -101,7 +101,7 @@ pub fn reach<L: UntilLanguage>(
     fact: Fact,
     worth: u32,
 ) -> NumberSet
-    requires states_in_bounds { (scope.now.symbols * scope.now.states * scope.now.states ≤ length work.now) × ((RulesWithin scope.now.symbols (L.rules language.now)) × ((In scope.now (triple fact)) × (entry_of scope.now work.now (triple fact) ≡ worth))) }
+    requires entry { (scope.now.symbols * scope.now.states * scope.now.states ≤ length work.now) × ((RulesWithin scope.now.symbols (L.rules language.now)) × ((In scope.now (triple fact)) × (entry_of scope.now work.now (triple fact) ≡ worth))) }
     requires sound { Sound scope.now (L.rules language.now) work.now }
     ensures reached { Reached scope.now (L.rules language.now) work.now fact.from fact.to worth fact.symbol result }
     ensures shut { ReachShut scope.now (L.rules language.now) work.now fact.from fact.to worth result }

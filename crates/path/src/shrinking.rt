@@ -121,8 +121,8 @@ pub fn shrink(
     to: u8,
     worth: u32,
 ) -> Option<Split>
-    requires states_in_bounds { (scope.now.symbols * scope.now.states * scope.now.states ≤ length work.now) × (SymbolsBelow scope.now.symbols rule) }
-    requires from_lt_states { (from < scope.now.states) × ((to < scope.now.states) × ((1 < worth) × (worth < 5000))) }
+    requires sizes { (scope.now.symbols * scope.now.states * scope.now.states ≤ length work.now) × (SymbolsBelow scope.now.symbols rule) }
+    requires inside { (from < scope.now.states) × ((to < scope.now.states) × ((1 < worth) × (worth < 5000))) }
     ensures { MatchOption result ((n : ℕ) → worth ≡ n + 1 → GivesIn (ground_of scope.now) rule (Less scope.now work.now n) (Less scope.now work.now n) (head_of rule, from, to) n → ⊥) (λ found. (rules : List RuleOf) (n : ℕ) → Among rule rules → Sound scope.now rules work.now → worth ≡ n + 1 → Splits scope.now rules work.now (record { symbol = head_of rule; from = from; to = to }) n found) }
 {
     match rule {

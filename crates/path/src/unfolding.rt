@@ -30,8 +30,8 @@ fn shrink_in(
     worth: u32,
     mask: NumberSet,
 ) -> Option<Split>
-    requires states_in_bounds { (scope.now.symbols * scope.now.states * scope.now.states ≤ length work.now) × (SymbolsBelow scope.now.symbols rule) }
-    requires from_lt_states { (from < scope.now.states) × ((to < scope.now.states) × ((1 < worth) × (worth < 5000))) }
+    requires sizes { (scope.now.symbols * scope.now.states * scope.now.states ≤ length work.now) × (SymbolsBelow scope.now.symbols rule) }
+    requires inside { (from < scope.now.states) × ((to < scope.now.states) × ((1 < worth) × (worth < 5000))) }
     ensures { MatchOption result (NoShorter scope.now work.now from to worth mask rule) (λ found. Has mask (head_of rule) × ((rules : List RuleOf) (n : ℕ) → Among rule rules → Sound scope.now rules work.now → worth ≡ n + 1 → Splits scope.now rules work.now (record { symbol = head_of rule; from = from; to = to }) n found)) }
 {
     if !mask.has(rule.head()) {

@@ -5,14 +5,14 @@ use Rattle.path.proofs.Sizes.{grows, back}
 use Rattle.path.proofs.reaching.reach.Goals as goal
 
 pub loop-fact-init : goal.loop-fact-init
-loop-fact-init g c = reached_one _ _ _ _ _ _ _ _ c.single-mask.ensures c.requires.states_in_bounds.1.1.0.symbol c.requires.states_in_bounds.1.1.1
+loop-fact-init g c = reached_one _ _ _ _ _ _ _ _ c.single-mask.ensures c.requires.entry.1.1.0.symbol c.requires.entry.1.1.1
 
 pub loop-fact-smaller : goal.loop-fact-smaller
 loop-fact-smaller g c =
     grows _ _ c.reach_once-more.ensures.keeps (omega (arith, c.count.ensures)) (λ e. omega (arith, e, c.count.ensures.0, c.count-in-loop-fact.ensures.0, c.if-count.false))
 
 pub loop-fact-preserved : goal.loop-fact-preserved
-loop-fact-preserved g c = reached_more c.args.scope.now _ _ c.requires.sound _ _ c.requires.states_in_bounds.1.1.0.from c.requires.states_in_bounds.1.1.0.to _ _ _ _ c.requires.states_in_bounds.1.0 c.loop-fact.invariant c.reach_once-more.ensures
+loop-fact-preserved g c = reached_more c.args.scope.now _ _ c.requires.sound _ _ c.requires.entry.1.1.0.from c.requires.entry.1.1.0.to _ _ _ _ c.requires.entry.1.0 c.loop-fact.invariant c.reach_once-more.ensures
 
 pub returns-then-count : goal.returns-then-count
 returns-then-count g c =

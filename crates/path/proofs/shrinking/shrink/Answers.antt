@@ -20,29 +20,29 @@ returns-then-steps_to c =
 
 pub returns-then-worth-eq2 : goal.returns-then-worth-eq2
 returns-then-worth-eq2 c =
-    let wi = subst (SymbolsBelow c.args.scope.now.symbols) c.in-Lead.is c.requires.states_in_bounds.1 in
+    let wi = subst (SymbolsBelow c.args.scope.now.symbols) c.in-Lead.is c.requires.sizes.1 in
     let (e, e∈, s, is) = c.in-Some.ensures in
     let via : c.in-Some.via < c.args.scope.now.states = omega (arith, (ends_in c.args.scope.now e e∈).1, s.2) in
     let Way = λ (r : Rule). (rules : List Rule) (n : ℕ) → Among r rules → Sound c.args.scope.now rules c.args.work.now → c.args.worth ≡ n + 1 → Splits c.args.scope.now rules c.args.work.now (record { symbol = head_of r; from = c.args.from; to = c.args.to }) n (Last c.in-Lead.action c.args.to) in
     subst Way (sym c.in-Lead.is)
-    (λ rules n r∈ so z. lead_last c.args.scope.now rules c.args.work.now _ _ c.in-Lead.rest _ _ c.in-Some.via n e so r∈ (omega arith) e∈ s (is_in _ _ _ _ wi.1 via c.requires.from_lt_states.1.0) (omega arith))
+    (λ rules n r∈ so z. lead_last c.args.scope.now rules c.args.work.now _ _ c.in-Lead.rest _ _ c.in-Some.via n e so r∈ (omega arith) e∈ s (is_in _ _ _ _ wi.1 via c.requires.inside.1.0) (omega arith))
 
 pub returns-else-worth-eq2 : goal.returns-else-worth-eq2
 returns-else-worth-eq2 c =
-    let wi = subst (SymbolsBelow c.args.scope.now.symbols) c.in-Lead.is c.requires.states_in_bounds.1 in
+    let wi = subst (SymbolsBelow c.args.scope.now.symbols) c.in-Lead.is c.requires.sizes.1 in
     let (e, e∈, s, is) = c.in-Some.ensures in
     let via : c.in-Some.via < c.args.scope.now.states = omega (arith, (ends_in c.args.scope.now e e∈).1, s.2) in
     let Way = λ (r : Rule). (rules : List Rule) (n : ℕ) → Among r rules → Sound c.args.scope.now rules c.args.work.now → c.args.worth ≡ n + 1 → Splits c.args.scope.now rules c.args.work.now (record { symbol = head_of r; from = c.args.from; to = c.args.to }) n (Onward c.in-Lead.action c.in-Some.via c.in-Lead.rest) in
     subst Way (sym c.in-Lead.is)
-    (λ rules n r∈ so z. lead_onward c.args.scope.now rules c.args.work.now _ _ c.in-Lead.rest _ _ c.in-Some.via n e r∈ (omega arith) e∈ s (is_in _ _ _ _ wi.1 via c.requires.from_lt_states.1.0) (omega arith))
+    (λ rules n r∈ so z. lead_onward c.args.scope.now rules c.args.work.now _ _ c.in-Lead.rest _ _ c.in-Some.via n e r∈ (omega arith) e∈ s (is_in _ _ _ _ wi.1 via c.requires.inside.1.0) (omega arith))
 
 pub returns-in-Some-sums_through : goal.returns-in-Some-sums_through
 returns-in-Some-sums_through c =
-    let wi = subst (SymbolsBelow c.args.scope.now.symbols) c.in-Pair.is c.requires.states_in_bounds.1 in
+    let wi = subst (SymbolsBelow c.args.scope.now.symbols) c.in-Pair.is c.requires.sizes.1 in
     let (u, s) = c.in-Some-sums_through.ensures in
     let Way = λ (r : Rule). (rules : List Rule) (n : ℕ) → Among r rules → Sound c.args.scope.now rules c.args.work.now → c.args.worth ≡ n + 1 → Splits c.args.scope.now rules c.args.work.now (record { symbol = head_of r; from = c.args.from; to = c.args.to }) n (Both c.in-Pair.left c.in-Some-sums_through.through c.in-Pair.right) in
     subst Way (sym c.in-Pair.is)
-    (λ rules n r∈ so z. pair_both c.args.scope.now rules c.args.work.now _ _ _ _ _ _ n r∈ (is_in _ _ _ _ wi.1 c.requires.from_lt_states.0 u) (is_in _ _ _ _ wi.2 u c.requires.from_lt_states.1.0) (subst (λ y. Sums c.args.scope.now c.args.work.now c.in-Pair.left c.in-Pair.right c.args.from c.args.to y c.in-Some-sums_through.through) z s))
+    (λ rules n r∈ so z. pair_both c.args.scope.now rules c.args.work.now _ _ _ _ _ _ n r∈ (is_in _ _ _ _ wi.1 c.requires.inside.0 u) (is_in _ _ _ _ wi.2 u c.requires.inside.1.0) (subst (λ y. Sums c.args.scope.now c.args.work.now c.in-Pair.left c.in-Pair.right c.args.from c.args.to y c.in-Some-sums_through.through) z s))
 
 pub returns-else-steps_to : goal.returns-else-steps_to
 returns-else-steps_to c n z d =

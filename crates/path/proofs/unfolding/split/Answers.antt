@@ -14,13 +14,13 @@ pub bounds-work-cell : goal.bounds-work-cell
 bounds-work-cell g c = in_cells c.args.scope.now _ _ _ c.requires.sizes.0 c.requires.known.6.there c.cell.ensures
 
 pub reach-mask-requires : goal.reach-mask-requires
-reach-mask-requires g c = (record { states_in_bounds = (c.requires.sizes.0, (c.requires.sizes.1, (c.requires.known.6.there, sym (ap (λ x. get_or c.args.work.now x 0) c.cell.ensures)))); sound = c.requires.sound })
+reach-mask-requires g c = (record { entry = (c.requires.sizes.0, (c.requires.sizes.1, (c.requires.known.6.there, sym (ap (λ x. get_or c.args.work.now x 0) c.cell.ensures)))); sound = c.requires.sound })
 
 pub shrink_in-requires : goal.shrink_in-requires
 shrink_in-requires g c =
     let (n, top, pos, low, few, closed, kn) = c.requires.known in
     let e : get_or c.args.work.now c.cell.result 0 ≡ n + 1 = ap (λ x. get_or c.args.work.now x 0) c.cell.ensures ∙ kn.is in
-    record { states_in_bounds = (c.requires.sizes.0, c.requires.sizes.1 _ (_, sym c.rule.ensures ∙ c.in-Some.is)); from_lt_states = (kn.there.from, (kn.there.to, (omega arith, omega arith))) }
+    record { sizes = (c.requires.sizes.0, c.requires.sizes.1 _ (_, sym c.rule.ensures ∙ c.in-Some.is)); inside = (kn.there.from, (kn.there.to, (omega arith, omega arith))) }
 
 pub loop-place-init : goal.loop-place-init
 loop-place-init g c = λ i l. absurd (omega arith)
