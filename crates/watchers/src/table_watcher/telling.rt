@@ -13,9 +13,9 @@ use language::{Alphabet, Watcher};
 impl Alphabet for TableWatcher {
     ghost known = { λ t. t.actions };
 
-    ghost some_action = { first_of (Prim.search rules, Prim.grind (arith, Self.row.coded.inj)) };
+    ghost some_action = { Prim.search rules };
 
-    ghost few_actions = { first_of (Prim.search rules, Prim.grind (arith, Self.row.coded.inj)) };
+    ghost few_actions = { Prim.search rules };
 
     fn action_count(&self) -> u8 {
         self.actions
