@@ -1,6 +1,6 @@
 // What a step watcher tells.
 ghost use Rattle.watchers.specs.Steps.{StepWords, step_table};
-ghost use Rattle.std.proofs.Common.{rules, arith, ◌∙◌, sym};
+ghost use Rattle.std.proofs.Common.{rules, ◌∙◌, sym};
 ghost use Rattle.watchers.specs.StepTellingLemmas.{whole, counted_all};
 ghost use Rattle.std.proofs.lemmas.Bool.{eq-eqb, eqb-true};
 ghost use Rattle.language.specs.Tables.{run};
