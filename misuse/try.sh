@@ -5,7 +5,7 @@ set -u
 failed=0
 for edit in misuse/*.edit; do
     copy=$(mktemp -d)
-    cp -r crates.txt crates "$copy"
+    tar -c --exclude=out crates.txt crates | tar -x -C "$copy"
     file=crates/cases/$(sed -n 's/^file: //p' "$edit")
     old=$(sed -n 's/^old: //p' "$edit")
     new=$(sed -n 's/^new: //p' "$edit")

@@ -1,6 +1,6 @@
 // The languages that the cases are about.
 ghost use Rattle.std.specs.Prelude.{◌≡◌, false, List, [], length, None as NoState};
-ghost use Rattle.std.proofs.Common.{rules};
+ghost use Rattle.std.proofs.Common.{arith};
 
 use kinds::{Automaton, Grammar};
 use language::{Alphabet, Rule, UntilLanguage, Watcher};
@@ -209,9 +209,9 @@ pub struct Seventeen;
 impl Alphabet for Seventeen {
     ghost known = { λ _. 2 };
 
-    ghost some_action = { Prim.search rules };
+    ghost some_action = { λ _. omega arith };
 
-    ghost few_actions = { Prim.search rules };
+    ghost few_actions = { λ _. omega arith };
 
     fn action_count(&self) -> u8 {
         2
@@ -225,15 +225,15 @@ impl UntilLanguage for Seventeen {
 
     ghost rules = { λ _. [] };
 
-    ghost some_symbol = { Prim.search rules };
+    ghost some_symbol = { λ l few short. absurd (omega arith) };
 
-    ghost symbols_known = { Prim.search rules };
+    ghost symbols_known = { λ l few short. absurd (omega arith) };
 
-    ghost actions_known = { Prim.search rules };
+    ghost actions_known = { λ l few short. absurd (omega arith) };
 
-    ghost derived = { Prim.search rules };
+    ghost derived = { λ l w few short given. absurd (omega arith) };
 
-    ghost only_derived = { Prim.search rules };
+    ghost only_derived = { λ l w few short given. absurd (omega arith) };
 
     fn symbol_count(&self) -> usize {
         17
@@ -255,9 +255,9 @@ pub struct Many;
 impl Alphabet for Many {
     ghost known = { λ _. 2 };
 
-    ghost some_action = { Prim.search rules };
+    ghost some_action = { λ _. omega arith };
 
-    ghost few_actions = { Prim.search rules };
+    ghost few_actions = { λ _. omega arith };
 
     fn action_count(&self) -> u8 {
         2
@@ -269,11 +269,11 @@ impl Watcher for Many {
 
     ghost table = { λ _. record { states = 33; start = 0; next = λ _ _. NoState; marked = λ _. false } };
 
-    ghost complete = { Prim.search rules };
+    ghost complete = { λ l few. absurd (omega arith) };
 
-    ghost accepted = { Prim.search rules };
+    ghost accepted = { λ l w few given. absurd (omega arith) };
 
-    ghost only_accepted = { Prim.search rules };
+    ghost only_accepted = { λ l w few given. absurd (omega arith) };
 
     fn state_count(&self) -> usize {
         33

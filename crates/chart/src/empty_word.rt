@@ -8,7 +8,7 @@ use crate::filling::fill;
 use language::UntilLanguage;
 use model::NumberSet;
 
-// The symbols that derive the empty word. Only crates of ours call this, with a language within the limits.
+// The symbols that derive the empty word. It is for crates of ours, with a language within the limits.
 pub fn emptying<L: UntilLanguage>(language: &L) -> NumberSet
     requires few { L.UntilLanguage.symbols language.now ≤ 16 }
     requires rules { length (L.UntilLanguage.rules language.now) ≤ 128 }

@@ -24,5 +24,5 @@ pub struct Automaton {
     ghost distinct: { Distinct no_edge edges count },
 }
 
-pub mod telling;
+mod telling;
 mod writing;

@@ -1,5 +1,5 @@
 // A language of brackets.
-ghost use Rattle.std.specs.Prelude.{◌≡◌, ◌<◌, ◌≤◌, ◌≢◌};
+ghost use Rattle.std.specs.Prelude.{◌<◌, ◌≤◌, ◌≢◌};
 
 // Its words have as many ups as downs, and no beginning with more downs than ups; other actions may stand anywhere.
 #[derive(Clone, Copy)]
@@ -14,4 +14,4 @@ pub struct Brackets {
 }
 
 mod making;
-pub mod telling;
+mod telling;

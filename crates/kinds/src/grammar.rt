@@ -22,5 +22,5 @@ pub struct Grammar {
     ghost distinct: { Distinct no_rule rules count },
 }
 
-pub mod telling;
+mod telling;
 mod writing;

@@ -15,4 +15,4 @@ pub struct StepWatcher {
 }
 
 mod making;
-pub mod telling;
+mod telling;

@@ -17,5 +17,5 @@ pub struct TableWatcher {
     ghost inside: { (k : ℕ) → slice_index nexts k < states },
 }
 
-pub mod telling;
+mod telling;
 mod writing;

@@ -1,6 +1,6 @@
 // An until language with more symbols than calls take.
 ghost use Rattle.std.specs.Prelude.{[]};
-ghost use Rattle.std.proofs.Common.{rules};
+ghost use Rattle.std.proofs.Common.{arith};
 
 use language::{Alphabet, Rule, UntilLanguage};
 
@@ -11,9 +11,9 @@ pub struct Wide;
 impl Alphabet for Wide {
     ghost known = { λ _. 1 };
 
-    ghost some_action = { Prim.search rules };
+    ghost some_action = { λ _. omega arith };
 
-    ghost few_actions = { Prim.search rules };
+    ghost few_actions = { λ _. omega arith };
 
     fn action_count(&self) -> u8 {
         1
@@ -27,15 +27,15 @@ impl UntilLanguage for Wide {
 
     ghost rules = { λ _. [] };
 
-    ghost some_symbol = { Prim.search rules };
+    ghost some_symbol = { λ l few short. absurd (omega arith) };
 
-    ghost symbols_known = { Prim.search rules };
+    ghost symbols_known = { λ l few short. absurd (omega arith) };
 
-    ghost actions_known = { Prim.search rules };
+    ghost actions_known = { λ l few short. absurd (omega arith) };
 
-    ghost derived = { Prim.search rules };
+    ghost derived = { λ l w few short given. absurd (omega arith) };
 
-    ghost only_derived = { Prim.search rules };
+    ghost only_derived = { λ l w few short given. absurd (omega arith) };
 
     fn symbol_count(&self) -> usize {
         17

@@ -1,6 +1,6 @@
 // What an automaton tells: a rule for each edge, and an empty rule for each final state.
 ghost use Rattle.kinds.specs.Automata.{AutomatonWords, told};
-ghost use Rattle.std.proofs.Common.{rules, arith, inl, inr, sym, subst};
+ghost use Rattle.std.proofs.Common.{arith, inl, inr, sym, subst};
 ghost use Rattle.language.specs.Rules.{SymbolsBelow, ActionsBelow};
 ghost use Rattle.kinds.specs.Told.{told_cases, edge_inside, derives_run, run_from};
 ghost use Rattle.std.specs.Prelude.{suc, length};
@@ -12,9 +12,9 @@ use language::{Alphabet, Rule, UntilLanguage};
 impl Alphabet for Automaton {
     ghost known = { λ a. a.actions };
 
-    ghost some_action = { Prim.search rules };
+    ghost some_action = { λ a. a.some_action };
 
-    ghost few_actions = { Prim.search rules };
+    ghost few_actions = { λ a. a.few_actions };
 
     fn action_count(&self) -> u8 {
         self.actions

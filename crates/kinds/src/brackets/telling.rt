@@ -1,6 +1,6 @@
 // What brackets tell: symbol 0 gives the balanced words, symbol 1 those with one down too many, symbol 2 a down and then a balanced word.
 ghost use Rattle.kinds.specs.BracketWords.{BracketWords, told};
-ghost use Rattle.std.proofs.Common.{rules, arith};
+ghost use Rattle.std.proofs.Common.{arith};
 ghost use Rattle.std.specs.Prelude.{◌<◌};
 ghost use Rattle.language.specs.Rules.{SymbolsBelow, ActionsBelow};
 ghost use Rattle.kinds.specs.Nesting.{told_each, complete_all, sound_all};
@@ -12,9 +12,9 @@ use language::{Alphabet, Rule, UntilLanguage};
 impl Alphabet for Brackets {
     ghost known = { λ b. b.actions };
 
-    ghost some_action = { Prim.search rules };
+    ghost some_action = { λ b. omega (arith, b.up_known) };
 
-    ghost few_actions = { Prim.search rules };
+    ghost few_actions = { λ b. b.few_actions };
 
     fn action_count(&self) -> u8 {
         self.actions
@@ -28,7 +28,7 @@ impl UntilLanguage for Brackets {
 
     ghost rules = { told };
 
-    ghost some_symbol = { Prim.search rules };
+    ghost some_symbol = { λ b few short. omega arith };
 
     ghost symbols_known = { λ b few short.
         let zero_one : 0 < 3 = omega arith in let one : 1 < 3 = omega arith in let two : 2 < 3 = omega arith in

@@ -1,6 +1,5 @@
 // What a grammar tells.
 ghost use Rattle.kinds.specs.Grammars.{rules_of, GrammarWords};
-ghost use Rattle.std.proofs.Common.{rules, arith};
 ghost use Rattle.kinds.specs.Fitting.{symbols_from, actions_from};
 ghost use Rattle.kinds.specs.GrammarTellingLemmas.{each};
 
@@ -10,9 +9,9 @@ use language::{Alphabet, Rule, UntilLanguage};
 impl Alphabet for Grammar {
     ghost known = { λ g. g.actions };
 
-    ghost some_action = { Prim.search rules };
+    ghost some_action = { λ g. g.some_action };
 
-    ghost few_actions = { Prim.search rules };
+    ghost few_actions = { λ g. g.few_actions };
 
     fn action_count(&self) -> u8 {
         self.actions

@@ -1,6 +1,6 @@
 // What a step watcher tells.
 ghost use Rattle.watchers.specs.Steps.{StepWords, step_table};
-ghost use Rattle.std.proofs.Common.{rules, ◌∙◌, sym};
+ghost use Rattle.std.proofs.Common.{◌∙◌, sym};
 ghost use Rattle.watchers.specs.StepTellingLemmas.{whole, counted_all};
 ghost use Rattle.std.proofs.lemmas.Bool.{eq-eqb, eqb-true};
 ghost use Rattle.language.specs.Tables.{run};
@@ -12,9 +12,9 @@ use language::{Alphabet, Watcher};
 impl Alphabet for StepWatcher {
     ghost known = { λ s. s.actions };
 
-    ghost some_action = { Prim.search rules };
+    ghost some_action = { λ w. w.some_action };
 
-    ghost few_actions = { Prim.search rules };
+    ghost few_actions = { λ w. w.few_actions };
 
     fn action_count(&self) -> u8 {
         self.actions

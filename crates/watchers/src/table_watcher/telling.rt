@@ -1,6 +1,6 @@
 // What a table watcher tells.
 ghost use Rattle.watchers.specs.TableWatchers.{TableWords, stored_table, mark_of, reached};
-ghost use Rattle.std.proofs.Common.{rules, arith, sym, subst};
+ghost use Rattle.std.proofs.Common.{arith, sym, subst};
 ghost use Rattle.watchers.specs.TableTellingLemmas.{whole, alike};
 ghost use Rattle.std.specs.Prelude.{◌≡◌, true, ◌&&◌, nat_lt};
 ghost use Rattle.std.proofs.lemmas.Bool.{lt-ltb, and_from, and_parts};
@@ -13,9 +13,9 @@ use language::{Alphabet, Watcher};
 impl Alphabet for TableWatcher {
     ghost known = { λ t. t.actions };
 
-    ghost some_action = { Prim.search rules };
+    ghost some_action = { λ w. w.some_action };
 
-    ghost few_actions = { Prim.search rules };
+    ghost few_actions = { λ w. w.few_actions };
 
     fn action_count(&self) -> u8 {
         self.actions
