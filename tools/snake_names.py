@@ -14,9 +14,11 @@ import sys
 WORD = r"[A-Za-z_][\w']*(?:-[\w']+)*"
 NAME = re.compile(r"(?<![\w'-])" + WORD)
 TOP = re.compile(r"^(?:(?:abbrev|unfoldable|pub|mutual) )*(" + WORD + r") :(?: |$)(.*)$")
-FIELD = re.compile(r"^\s+(?:pub )(" + WORD + r") : ")
+INNER = re.compile(r"^\s+(?:pub )?(" + WORD + r") : ")
 # where snake case alone would give one name to two things
-APART = {"its-states": "states_of_ground", "no-rule": "rules_empty"}
+APART = {"its-states": "states_of_ground", "no-rule": "rules_empty", "entry-of": "goal_entry"}
+# variables that stand beside such names in the lemmas
+VARIABLES = {"is-starts", "is-middle", "is-out", "ends-are", "left-are", "decK", "decD", "jN", "yes-it-is"}
 CASE = re.compile(r"^\s+\|?\s*(" + WORD + r") : ")
 
 
@@ -55,9 +57,9 @@ def declared(path, text):
         top = TOP.match(line)
         if top and not re.match(r"(goal|need|goals|needs)\.", top.group(2)):
             found.add(top.group(1))
-        field = FIELD.match(line)
-        if field:
-            found.add(field.group(1))
+        inner = INNER.match(line)
+        if inner:
+            found.add(inner.group(1))
         if line and not line[0].isspace():
             data = line.startswith(("data ", "pub data ")) or " data " in line.split(":")[0]
         elif data:
@@ -98,7 +100,7 @@ def main(argv):
         for line in re.findall(r"use Rattle\.(?:std|core|borrow|mathlib)[\w.]*\.\{([^}]*)\}", text):
             library |= set(NAME.findall(line))
         all_names |= set(NAME.findall(text))
-    names = {n: snake(n) for n in sorted(own) if not is_plain(n)}
+    names = {n: snake(n) for n in sorted(own | (VARIABLES & all_names)) if not is_plain(n)}
     for n in sorted(set(names) & library):
         print(f"also a name of the library: {n}")
     together = 0

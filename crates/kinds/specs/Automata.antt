@@ -39,7 +39,7 @@ told m = map (λ e. Lead e.from e.action e.to) (edges_of m) ++ map (λ q. Empty 
 pub record NoEdges (n a : ℕ) (m : Automaton) : Type 0 where
   pub states_are : m.states ≡ n
   pub actions_are : m.actions ≡ a
-  pub no_edge : edges_of m ≡ []
+  pub edges_empty : edges_of m ≡ []
   pub no_final : (q : ℕ) → final_at m q ≡ false
 
 -- the automaton after is the one before with the edge at the end

@@ -53,22 +53,22 @@ module _ (up down : ℕ) (apart : up ≡ down → ⊥) where
   pub closes_down : (d : ℕ) (w : Word) → Closes up down d w → Closes up down (suc d) (down ∷ w)
   closes_down d w c = record {
     ends = omega (arith, times_hit down w, times_miss up down w (λ e. apart (sym e)), c.ends);
-    stays = stays-down;
+    stays = stays_down;
   }
     where
-      stays-down : (n : ℕ) → times down (take n (down ∷ w)) ≤ suc d + times up (take n (down ∷ w))
-      stays-down zero = omega arith
-      stays-down (suc n) = omega (arith, times_hit down (take n w), times_miss up down (take n w) (λ e. apart (sym e)), c.stays n)
+      stays_down : (n : ℕ) → times down (take n (down ∷ w)) ≤ suc d + times up (take n (down ∷ w))
+      stays_down zero = omega arith
+      stays_down (suc n) = omega (arith, times_hit down (take n w), times_miss up down (take n w) (λ e. apart (sym e)), c.stays n)
 
   pub closes_other : (d a : ℕ) (w : Word) → (a ≢ up) → (a ≢ down) → Closes up down d w → Closes up down d (a ∷ w)
   closes_other d a w nu nd c = record {
     ends = omega (arith, times_miss up a w nu, times_miss down a w nd, c.ends);
-    stays = stays-other;
+    stays = stays_other;
   }
     where
-      stays-other : (n : ℕ) → times down (take n (a ∷ w)) ≤ d + times up (take n (a ∷ w))
-      stays-other zero = omega arith
-      stays-other (suc n) = omega (arith, times_miss up a (take n w) nu, times_miss down a (take n w) nd, c.stays n)
+      stays_other : (n : ℕ) → times down (take n (a ∷ w)) ≤ d + times up (take n (a ∷ w))
+      stays_other zero = omega arith
+      stays_other (suc n) = omega (arith, times_miss up a (take n w) nu, times_miss down a (take n w) nd, c.stays n)
 
   pub closes_append : (d e : ℕ) (u v : Word) → Closes up down d u → Closes up down e v → Closes up down (d + e) (u ++ v)
   closes_append d e u v c f = record {

@@ -49,8 +49,8 @@ module _ (b : Brackets) where
   pub told_later : (k : ℕ) → 4 ≤ k → slice_get (told b) k ≡ slice_get (map over (others_of b)) (k - 4)
   told_later k l = let e : k ≡ suc (suc (suc (suc (k - 4)))) = omega arith in ap (slice_get (told b)) e
 
-  other-apart : (a : ℕ) → other_action b a ≡ true → (a ≢ b.up) × (a ≢ b.down)
-  other-apart a o =
+  other_apart : (a : ℕ) → other_action b a ≡ true → (a ≢ b.up) × (a ≢ b.down)
+  other_apart a o =
       let p = and_parts (not (a == b.up)) (not (a == b.down)) o in
       (eqb-false a b.up (not-true (a == b.up) p.0), eqb-false a b.down (not-true (a == b.down) p.1))
 
@@ -71,7 +71,7 @@ module _ (b : Brackets) where
   told_each P empty opens pairs closes others r (suc (suc (suc (suc k))), e) =
       let (a, there, is) = among_mapped over r (others_of b) (k, e) in
       let (l, o) = among_passing (other_action b) b.actions 0 a there in
-      let n = other-apart a o in
+      let n = other_apart a o in
       subst P (sym is) (others a (omega (arith, l)) n.0 n.1)
 
   -- symbol 0 closes as much as it opens, the others one more
@@ -105,27 +105,27 @@ module _ (b : Brackets) where
   wrapped : (u v : Word) → Derives (told b) 0 u → Derives (told b) 0 v → Derives (told b) 0 (b.up ∷ (u ++ b.down ∷ v))
   wrapped u v d e = by_lead (told b) 0 b.up 1 (u ++ b.down ∷ v) (1, refl) (by_pair (told b) 1 0 2 u (b.down ∷ v) (2, refl) d (by_lead (told b) 2 b.down 0 v (3, refl) e))
 
-  tower-up : (d : ℕ) (w : Word) → Tower (suc d) w → Tower d (b.up ∷ w)
-  tower-up zero w (u, v, e, du, dv) = subst (λ x. Derives (told b) 0 (b.up ∷ x)) (sym e) (wrapped u v du dv)
-  tower-up (suc d) w (u, v, e, du, (x, y, f, dx, t)) =
+  tower_up : (d : ℕ) (w : Word) → Tower (suc d) w → Tower d (b.up ∷ w)
+  tower_up zero w (u, v, e, du, dv) = subst (λ x. Derives (told b) 0 (b.up ∷ x)) (sym e) (wrapped u v du dv)
+  tower_up (suc d) w (u, v, e, du, (x, y, f, dx, t)) =
       (b.up ∷ (u ++ b.down ∷ x), y, ap (λ z. b.up ∷ z) (e ∙ ap (λ z. u ++ b.down ∷ z) f ∙ sym (append_assoc u (b.down ∷ x) (b.down ∷ y))), wrapped u x du dx, t)
 
-  tower-down : (d : ℕ) (w : Word) → Closes b.up b.down d (b.down ∷ w) → ((e : ℕ) → Closes b.up b.down e w → Tower e w) → Tower d (b.down ∷ w)
-  tower-down zero w c later = absurd (down_never b.up b.down b.apart w c)
-  tower-down (suc d) w c later = ([], w, refl, by_empty (told b) 0 (0, refl), later d (down_closes b.up b.down b.apart d w c))
+  tower_down : (d : ℕ) (w : Word) → Closes b.up b.down d (b.down ∷ w) → ((e : ℕ) → Closes b.up b.down e w → Tower e w) → Tower d (b.down ∷ w)
+  tower_down zero w c later = absurd (down_never b.up b.down b.apart w c)
+  tower_down (suc d) w c later = ([], w, refl, by_empty (told b) 0 (0, refl), later d (down_closes b.up b.down b.apart d w c))
 
-  tower-other : (d a : ℕ) (w : Word) → Among (over a) (told b) → Tower d w → Tower d (a ∷ w)
-  tower-other zero a w there t = by_lead (told b) 0 a 0 w there t
-  tower-other (suc d) a w there (u, v, e, du, t) = (a ∷ u, v, ap (λ x. a ∷ x) e, by_lead (told b) 0 a 0 u there du, t)
+  tower_other : (d a : ℕ) (w : Word) → Among (over a) (told b) → Tower d w → Tower d (a ∷ w)
+  tower_other zero a w there t = by_lead (told b) 0 a 0 w there t
+  tower_other (suc d) a w there (u, v, e, du, t) = (a ∷ u, v, ap (λ x. a ∷ x) e, by_lead (told b) 0 a 0 u there du, t)
 
   tower : (w : Word) (d : ℕ) → Known b.actions w → Closes b.up b.down d w → Tower d w
   tower [] zero k c = by_empty (told b) 0 (0, refl)
   tower [] (suc d) k c = absurd (omega (arith, c.ends))
   tower (a ∷ w) d k c = elim (cases_eq a b.up) [
-    | inl e ↦ subst (λ x. Tower d (x ∷ w)) (sym e) (tower-up d w (tower w (suc d) k.1 (up_closes b.up b.down b.apart d w (subst (λ x. Closes b.up b.down d (x ∷ w)) e c))))
+    | inl e ↦ subst (λ x. Tower d (x ∷ w)) (sym e) (tower_up d w (tower w (suc d) k.1 (up_closes b.up b.down b.apart d w (subst (λ x. Closes b.up b.down d (x ∷ w)) e c))))
     | inr nu ↦ elim (cases_eq a b.down) [
-      | inl e ↦ subst (λ x. Tower d (x ∷ w)) (sym e) (tower-down d w (subst (λ x. Closes b.up b.down d (x ∷ w)) e c) (λ n. tower w n k.1))
-      | inr nd ↦ tower-other d a w (other_told a k.0 nu nd) (tower w d k.1 (other_closes b.up b.down b.apart d a w nu nd c))
+      | inl e ↦ subst (λ x. Tower d (x ∷ w)) (sym e) (tower_down d w (subst (λ x. Closes b.up b.down d (x ∷ w)) e c) (λ n. tower w n k.1))
+      | inr nd ↦ tower_other d a w (other_told a k.0 nu nd) (tower w d k.1 (other_closes b.up b.down b.apart d a w nu nd c))
     ]
   ]
 

@@ -105,8 +105,8 @@ module _ (g : Ground) (rules : List Rule) where
     simp length-append (omega arith),
   )
 
-  as-derived : (h X : ℕ) (v w : Word) → w ≡ v → DerivesWithin rules h X v → DerivesWithin rules h X w
-  as-derived h X v w e d = subst (DerivesWithin rules h X) (sym e) d
+  as_derived : (h X : ℕ) (v w : Word) → w ≡ v → DerivesWithin rules h X v → DerivesWithin rules h X w
+  as_derived h X v w e d = subst (DerivesWithin rules h X) (sym e) d
 
   -- a walk of one height more is what a rule gives
   pub walk_to : (h : ℕ) (r : Rule) (p : Triple) (n : ℕ) (path : List Step) → Guarded g p.1 path p.2 → Yields r (DerivesWithin rules h) p.0 (word g.model path) → length path ≡ n
@@ -117,7 +117,7 @@ module _ (g : Ground) (rules : List Rule) where
   walk_to h (Letter H a) p n (x ∷ []) w y len = let e = y.1 in (y.0, _, (w.1, refl, (cc), w.0), sym w.2.1, sym len)
   walk_to h (Letter H a) p n (x ∷ (x' ∷ q)) w y len = let e = y.1 in let z : ◌≡◌ {A = ℕ} 0 1 = cc in absurd (omega arith)
   walk_to h (Lead H a B) p n [] w y len = let e = y.2 in let z : ◌≡◌ {A = ℕ} 0 1 = cc in absurd (omega arith)
-  walk_to h (Lead H a B) p n (x ∷ q) w y len = let e = y.2 in (y.0, _, (w.1, refl, (cc), w.0), length q, (q, w.2, as-derived h B y.1 (word g.model q) (cc) y.3, refl), omega arith)
+  walk_to h (Lead H a B) p n (x ∷ q) w y len = let e = y.2 in (y.0, _, (w.1, refl, (cc), w.0), length q, (q, w.2, as_derived h B y.1 (word g.model q) (cc) y.3, refl), omega arith)
   walk_to h (Same H B) p n path w y len = (y.0, (path, w, y.1, len))
   walk_to h (Pair H B C) p n path w (x, u, v, e, d₁, d₂) len =
       let (k, p₁, p₂, g₁, g₂, w₁, w₂) = guarded_split g p.1 p.2 path u v (guarded_start g p.1 p.2 path w) w e in (
@@ -125,7 +125,7 @@ module _ (g : Ground) (rules : List Rule) where
         k,
         length p₁,
         length p₂,
-        (p₁, g₁, as-derived h B u (word g.model p₁) w₁ d₁, refl),
-        (p₂, g₂, as-derived h C v (word g.model p₂) w₂ d₂, refl),
+        (p₁, g₁, as_derived h B u (word g.model p₁) w₁ d₁, refl),
+        (p₂, g₂, as_derived h C v (word g.model p₂) w₂ d₂, refl),
         omega (arith, word_length g.model path, word_length g.model p₁, word_length g.model p₂, ap length w₁, ap length w₂, simp length-append at (ap length e)),
       )

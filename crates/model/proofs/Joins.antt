@@ -26,13 +26,13 @@ joined_like D E to from a = record {
 }
 
 module _ {X : Type 0} (step : ℕ → X → Type 0) (i : ℕ) where
-  upto-split : (x : X) → Upto step (i + 1) x → Upto step i x ⊎ step i x
-  upto-split x m = elim (dec_lt m.0 i) [ yes h ↦ inl (m.0, h, m.2) | no h ↦ inr (let e : m.0 ≡ i = omega (arith, m.1) in subst (λ k. step k x) e m.2) ]
+  upto_split : (x : X) → Upto step (i + 1) x → Upto step i x ⊎ step i x
+  upto_split x m = elim (dec_lt m.0 i) [ yes h ↦ inl (m.0, h, m.2) | no h ↦ inr (let e : m.0 ≡ i = omega (arith, m.1) in subst (λ k. step k x) e m.2) ]
 
   pub joined_more : {P Q R : X → Type 0} → Joined P Q (Upto step i) → Joined Q R (step i) → Joined P R (Upto step (i + 1))
   joined_more a b = record {
     keeps = λ x p. b.keeps x (a.keeps x p);
-    puts = λ x m. ⊎_elim (λ u. b.keeps x (a.puts x u)) (b.puts x) (upto-split x m);
+    puts = λ x m. ⊎_elim (λ u. b.keeps x (a.puts x u)) (b.puts x) (upto_split x m);
     only = λ x r. ⊎_elim (λ q. ⊎_elim inl (λ m. inr (m.0, omega (arith, m.1), m.2)) (a.only x q)) (λ s. inr (i, omega arith, s)) (b.only x r);
   }
 

@@ -41,9 +41,9 @@ module _ (c : Scope) (rules : List Rule) (w : List ℕ) where
     }
 
     -- one step more on the path
-    on-path : (steps : List Step) (written v : ℕ) (e : Edge) (a t : ℕ) → written < length steps → Guarded (ground_of c) fact.from (take written steps) v → Leads (ground_of c) a v e → e.to ≡ t
+    on_path : (steps : List Step) (written v : ℕ) (e : Edge) (a t : ℕ) → written < length steps → Guarded (ground_of c) fact.from (take written steps) v → Leads (ground_of c) a v e → e.to ≡ t
         → Guarded (ground_of c) fact.from (take (written + 1) (set steps written (record { action = a; state = t }))) t
-    on-path steps written v e a t l g ld et =
+    on_path steps written v e a t l g ld et =
         subst (λ y. Guarded (ground_of c) fact.from y t) (sym (take_more_set steps written (record { action = a; state = t }) l))
         (guarded_append (ground_of c) fact.from v t (take written steps) (record { action = a; state = t } ∷ []) g
         (subst (λ y. Guarded (ground_of c) v (record { action = y; state = t } ∷ []) t) ld.2 (subst (λ y. Guarded (ground_of c) v (record { action = e.action; state = y } ∷ []) y) et (first_edge (ground_of c) a v e.to e [] ld ((edge_inside c.model.now e ld.0).2, refl)))))
@@ -61,7 +61,7 @@ module _ (c : Scope) (rules : List Rule) (w : List ℕ) where
         record {
           at = t;
           left = j;
-          path = on-path steps written d.at e a t (omega arith) d.path (subst (λ y. Leads (ground_of c) a y e) from leads) et;
+          path = on_path steps written d.at e a t (omega arith) d.path (subst (λ y. Leads (ground_of c) a y e) from leads) et;
           next = subst (λ y. Follows c w y fs fact.to j) (sym to) rest;
           sum = omega (arith, d.sum);
           gives = λ x sp. subst (Derives rules fact.symbol) (on_word steps written a t x (omega arith)) (d.gives (a ∷ x) (a ∷ [], x, refl, der, sp));
@@ -73,7 +73,7 @@ module _ (c : Scope) (rules : List Rule) (w : List ℕ) where
         record {
           at = t;
           left = h + j;
-          path = on-path steps written d.at e a t (omega arith) d.path (subst (λ y. Leads (ground_of c) a y e) from leads) et;
+          path = on_path steps written d.at e a t (omega arith) d.path (subst (λ y. Leads (ground_of c) a y e) from leads) et;
           next = (refl, h, j, hpos, hk, rest, refl);
           sum = omega (arith, d.sum);
           gives = λ x (u, v, q, du, sp). subst (Derives rules fact.symbol) (on_word steps written a t x (omega arith)) (d.gives (a ∷ x) (a ∷ u, v, ap (λ y. a ∷ y) q, der u du, sp));

@@ -71,8 +71,8 @@ module _ (c : Scope) (w : List ℕ) (goal : NumberSet) (s top : ℕ) where
 
 module _ (c : Scope) (rules : List Rule) (in_rules : RulesWithin c.symbols rules) (w : List ℕ) (goal : NumberSet) (s top : ℕ) (inside : s < c.states) (closed : Closed c rules top w) where
   -- a good path that is shorter than the top has an entry
-  entry-of : (p : List Step) → GoodFor c.model.now c.guard goal rules s p → length p < top → (end s p < c.states) × AtMost (length p) (entry_of c w (0, s, end s p))
-  entry-of p good l =
+  goal_entry : (p : List Step) → GoodFor c.model.now c.guard goal rules s p → length p < top → (end s p < c.states) × AtMost (length p) (entry_of c w (0, s, end s p))
+  goal_entry p good l =
       let g = good_guarded (ground_of c) s p (omega (arith, c.its_states)) good.path good.guarded in
       (omega (arith, c.its_states, guarded_end (ground_of c) s (end s p) p g), least c rules top in_rules w closed good.spells.0 (0, s, end s p) (length p) l (p, g, good.spells.1, refl))
 
@@ -80,14 +80,14 @@ module _ (c : Scope) (rules : List Rule) (in_rules : RulesWithin c.symbols rules
   far_long far p good = elim (dec_lt (length p) top) [
     | no n ↦ omega arith
     | yes l ↦
-        (let (e, a) = entry-of p good l in absurd (omega (arith, a.low, far (end s p) e good.ends a.some)))
+        (let (e, a) = goal_entry p good l in absurd (omega (arith, a.low, far (end s p) e good.ends a.some)))
   ]
 
   pub near_least : (t : ℕ) → Nearest c w goal s top c.states t → (p : List Step) → GoodFor c.model.now c.guard goal rules s p → entry_of c w (0, s, t) - 1 ≤ length p
   near_least t near p good = elim (dec_lt (length p) top) [
     | no n ↦ omega (arith, near.low)
     | yes l ↦
-        (let (e, a) = entry-of p good l in omega (arith, a.low, near.least (end s p) e good.ends a.some))
+        (let (e, a) = goal_entry p good l in omega (arith, a.low, near.least (end s p) e good.ends a.some))
   ]
 
 -- the cleared table is sound

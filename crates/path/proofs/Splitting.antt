@@ -70,16 +70,16 @@ head_in k (Pair H B C) w = w.0
 
 module _ (c : Scope) (rules : List Rule) (w : List ℕ) (sound : Sound c rules w) (s t : ℕ) (ls : s < c.states) (lt : t < c.states) where
   -- what a rule keeps
-  keeps-derives : (e : ℕ) (r : Rule) (y : ℕ) → Among r rules → SymbolsBelow c.symbols r → Keeps c w s t e r y → (y < c.symbols) × (entry_of c w (y, s, t) ≡ e) × ((v : Word) → Derives rules y v → Derives rules (head_of r) v)
-  keeps-derives e (Empty H) y r∈ wi d = absurd d
-  keeps-derives e (Letter H a) y r∈ wi d = absurd d
-  keeps-derives e (Lead H a B) y r∈ wi d = absurd d
-  keeps-derives e (Same H B) y r∈ wi (q, is) =
+  keeps_derives : (e : ℕ) (r : Rule) (y : ℕ) → Among r rules → SymbolsBelow c.symbols r → Keeps c w s t e r y → (y < c.symbols) × (entry_of c w (y, s, t) ≡ e) × ((v : Word) → Derives rules y v → Derives rules (head_of r) v)
+  keeps_derives e (Empty H) y r∈ wi d = absurd d
+  keeps_derives e (Letter H a) y r∈ wi d = absurd d
+  keeps_derives e (Lead H a B) y r∈ wi d = absurd d
+  keeps_derives e (Same H B) y r∈ wi (q, is) =
       (subst (λ z. z < c.symbols) (sym q) wi.1, subst (λ z. entry_of c w (z, s, t) ≡ e) (sym q) is, λ v d. derives_same rules H B v r∈ (subst (λ z. Derives rules z v) q d))
-  keeps-derives e (Pair H B C) y r∈ wi (inl (q, z, is)) =
+  keeps_derives e (Pair H B C) y r∈ wi (inl (q, z, is)) =
       let empty = (still c rules w sound (B, s, s) (record { there = record { symbol = wi.1; from = ls; to = ls }; is = omega arith })).1 in
       (subst (λ z. z < c.symbols) (sym q) wi.2, subst (λ z. entry_of c w (z, s, t) ≡ e) (sym q) is, λ v d. derives_pair rules H B C [] v r∈ empty (subst (λ z. Derives rules z v) q d))
-  keeps-derives e (Pair H B C) y r∈ wi (inr (q, z, is)) =
+  keeps_derives e (Pair H B C) y r∈ wi (inr (q, z, is)) =
       let empty = (still c rules w sound (C, t, t) (record { there = record { symbol = wi.2; from = lt; to = lt }; is = omega arith })).1 in
       (subst (λ z. z < c.symbols) (sym q) wi.1, subst (λ z. entry_of c w (z, s, t) ≡ e) (sym q) is, λ v d. subst (Derives rules H) (append-nil v) (derives_pair rules H B C v [] r∈ (subst (λ z. Derives rules z v) q d) empty))
 
@@ -87,7 +87,7 @@ module _ (c : Scope) (rules : List Rule) (w : List ℕ) (sound : Sound c rules w
       → Joined (Has mask) (Has more) (λ y. (x : Rule) × Among x rules × (Has mask (head_of x) × Keeps c w s t e x y)) → Reached c rules w s t e X more
   reached_more e X mask more in_rules old j = record {
     first = j.keeps X old.first;
-    every = λ y h. ⊎_elim (old.every y) (λ (x, x∈, (hm, kp)). let (l, is, up) = keeps-derives e x y x∈ (in_rules x x∈) kp in (l, is, λ v d. (old.every (head_of x) hm).2 v (up v d))) (j.only y h);
+    every = λ y h. ⊎_elim (old.every y) (λ (x, x∈, (hm, kp)). let (l, is, up) = keeps_derives e x y x∈ (in_rules x x∈) kp in (l, is, λ v d. (old.every (head_of x) hm).2 v (up v d))) (j.only y h);
   }
 
   -- a symbol of the mask has a way from facts with fewer steps

@@ -24,16 +24,16 @@ sure (no n) nn = absurd (nn n)
 -- the test by sets
 pub led_exact : (m : Model) (t : Table) (rows : List NumberSet) (p : ℕ × ℕ) (a n : ℕ) (ends row left : NumberSet) → n ≡ step t p.1 a → Exactly (Has ends) (λ u. Out m (a, p.0, u)) → row ≡ get_or rows n nothing
     → Exactly (Has left) (λ u. Has ends u × (Has row u → ⊥)) → (left.bits ≡ 0 → LedBy m t rows p a) × (LedBy m t rows p a → left.bits ≡ 0)
-led_exact m t rows p a n ends row left next ends-are row_is left-are = (to, from)
+led_exact m t rows p a n ends row left next ends_are row_is left_are = (to, from)
   where
     there : (u : ℕ) → Holds rows (u, step t p.1 a) → Has row u
     there u h = subst (λ (x : NumberSet). Has x u) (sym row_is) (subst (λ k. Has (get_or rows k nothing) u) (sym next) h)
 
     to : left.bits ≡ 0 → LedBy m t rows p a
-    to e u o = sure (holds_dec rows (u, step t p.1 a)) (λ n. none_has left.bits u e ((left-are u).1 ((ends-are u).1 o, λ h. n (subst (λ k. Has (get_or rows k nothing) u) next (subst (λ (x : NumberSet). Has x u) row_is h)))))
+    to e u o = sure (holds_dec rows (u, step t p.1 a)) (λ n. none_has left.bits u e ((left_are u).1 ((ends_are u).1 o, λ h. n (subst (λ k. Has (get_or rows k nothing) u) next (subst (λ (x : NumberSet). Has x u) row_is h)))))
 
     from : LedBy m t rows p a → left.bits ≡ 0
-    from all = empty_exact left (λ u h. let (e, n) = (left-are u).0 h in n (there u (all u ((ends-are u).0 e))))
+    from all = empty_exact left (λ u h. let (e, n) = (left_are u).0 h in n (there u (all u ((ends_are u).0 e))))
 
 -- all the actions
 pub led_all : (m : Model) (t : Table) (rows : List NumberSet) (p : ℕ × ℕ) → ((a : ℕ) → a < m.actions → LedBy m t rows p a) → Led m t rows p

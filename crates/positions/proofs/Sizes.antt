@@ -25,14 +25,14 @@ ones_subset zero a b fa fb sub =
     let ea : a ≡ 0 = omega arith in let eb : b ≡ 0 = omega arith in let e : b ≡ a = omega arith in
     (le_of_eq (ap ones (sym e)), λ _ t h. subst (λ n. Bit n t) e h)
 ones_subset (suc k) a b fa fb sub =
-    let ih = ones_subset k (a / 2) (b / 2) (half-fits a fa) (half-fits b fb) (λ t h. transport (sym (bit_half b t)) (sub (suc t) (transport (bit_half a t) h))) in
+    let ih = ones_subset k (a / 2) (b / 2) (half_fits a fa) (half_fits b fb) (λ t h. transport (sym (bit_half b t)) (sub (suc t) (transport (bit_half a t) h))) in
     let low : a % 2 ≤ b % 2 = lower (ℕ_discrete (a % 2) 1) in
     let le = ih.0 in
     let sa = ones_step a in let sb = ones_step b in
     (omega arith, λ back. bits (ih.1 (omega arith)) (omega arith))
   where
-    half-fits : (n : ℕ) → n < 2 ^ suc k → n / 2 < 2 ^ k
-    half-fits n f = shr_below n k 1 (rw (add-one k) f)
+    half_fits : (n : ℕ) → n < 2 ^ suc k → n / 2 < 2 ^ k
+    half_fits n f = shr_below n k 1 (rw (add-one k) f)
 
     lower : Dec (a % 2 ≡ 1) → a % 2 ≤ b % 2
     lower (yes o) = let o' : b % 2 ≡ 1 = transport (bit_odd b) (sub 0 (transport (sym (bit_odd a)) o)) in omega arith

@@ -21,22 +21,22 @@ use Rattle.sheet.proofs.Chains.{later_like, last_like, path_pass, path_stop, non
 use Rattle.sheet.proofs.Marking.{from_marks, to_marks}
 
 module _ (G G' : List Step → Type 0) (to : (p : List Step) → G p → G' p) (from : (p : List Step) → G' p → G p) where
-  too-long-like : {k : ℕ} → TooLong G k → TooLong G' k
-  too-long-like t = ((t.0.0, to _ t.0.1), λ p g. t.1 p (from p g))
+  too_long_like : {k : ℕ} → TooLong G k → TooLong G' k
+  too_long_like t = ((t.0.0, to _ t.0.1), λ p g. t.1 p (from p g))
 
-  shows-like : (before after : List Step) (o : Option ℕ) → Shows G before after o → Shows G' before after o
-  shows-like before after None h = (λ p g. h.0 p (from p g), h.1)
-  shows-like before after (Some n) h = (h.0, to _ h.1, (λ p g. h.2 p (from p g)), h.3)
+  shows_like : (before after : List Step) (o : Option ℕ) → Shows G before after o → Shows G' before after o
+  shows_like before after None h = (λ p g. h.0 p (from p g), h.1)
+  shows_like before after (Some n) h = (h.0, to _ h.1, (λ p g. h.2 p (from p g)), h.3)
 
 module _ (m : Model) (l : Told) (work waiting : ℕ) (before after : List Step) (guard goal s : ℕ) (G G' : List Step → Type 0) (to : (p : List Step) → G p → G' p) (from : (p : List Step) → G' p → G p) where
   pub answered_like : (n : ℕ) (r : Result (Option ℕ) Refusal) → Answered m l work waiting before after guard goal s G n r → Answered m l work waiting before after guard goal s G' n r
   answered_like n r a = record {
-    cause = later_like (later_like (later_like (later_like (later_like (later_like (last_like (too-long-like G G' to from) (too-long-like G' G from to))))))) a.cause;
+    cause = later_like (later_like (later_like (later_like (later_like (later_like (last_like (too_long_like G G' to from) (too_long_like G' G from to))))))) a.cause;
     shows = go r a.shows;
   }
     where
       go : (r : Result (Option ℕ) Refusal) → MatchResult r (λ o. Shows G before after o) (λ _. after ≡ before) → MatchResult r (λ o. Shows G' before after o) (λ _. after ≡ before)
-      go (Ok o) h = shows-like G G' to from before after o h
+      go (Ok o) h = shows_like G G' to from before after o h
       go (Err e) h = h
 
 module _ (sheet : Sheet) (l : Told) (W : Word → Type 0) (work waiting : ℕ) (before after : List Step) (guard goal s : ℕ) where
@@ -99,12 +99,12 @@ module _ (sheet : Sheet) (l : Told) (W : Word → Type 0) (work waiting : ℕ) (
   abbrev Marked : List Step → Type 0
   Marked p = GoodByMarks sheet guard goal (Derives l.rules 0) s p
 
-  by-marks : (p : List Step) → Searched p → Marked p
-  by-marks p g = subst (λ z. Good (model_of sheet) (Has (at sheet.questions guard).marks) (Has z) (Derives l.rules 0) s p) right
+  by_marks : (p : List Step) → Searched p → Marked p
+  by_marks p g = subst (λ z. Good (model_of sheet) (Has (at sheet.questions guard).marks) (Has z) (Derives l.rules 0) s p) right
       (subst (λ y. Good (model_of sheet) (Has y) (Has b) (Derives l.rules 0) s p) left g)
 
-  as-searched : (p : List Step) → Marked p → Searched p
-  as-searched p g = subst (λ y. Good (model_of sheet) (Has y) (Has b) (Derives l.rules 0) s p) (sym left)
+  as_searched : (p : List Step) → Marked p → Searched p
+  as_searched p g = subst (λ y. Good (model_of sheet) (Has y) (Has b) (Derives l.rules 0) s p) (sym left)
       (subst (λ z. Good (model_of sheet) (Has (at sheet.questions guard).marks) (Has z) (Derives l.rules 0) s p) (sym right) g)
 
   ran : (r : Result (Option ℕ) Refusal) → Answered (model_of sheet) l work waiting before after guard goal s Marked sheet.questions.count r → Witnessed sheet l W work waiting before after guard goal s r
@@ -113,12 +113,12 @@ module _ (sheet : Sheet) (l : Told) (W : Word → Type 0) (work waiting : ℕ) (
       witnessed_ran sheet l W work waiting before after guard goal s r may.state may.guarded may.aimed to from answered
 
   pub witnessed_none : ((p : List Step) × Searched p → ⊥) → after ≡ before → Witnessed sheet l W work waiting before after guard goal s (Ok None)
-  witnessed_none none same = ran (Ok None) (answered_none (model_of sheet) l work waiting before after guard goal s sheet.questions.count Marked free (λ g. none (g.0, as-searched g.0 g.1)) same)
+  witnessed_none none same = ran (Ok None) (answered_none (model_of sheet) l work waiting before after guard goal s sheet.questions.count Marked free (λ g. none (g.0, as_searched g.0 g.1)) same)
 
   pub witnessed_steps : (k : ℕ) → k ≤ limit (length before) → Searched (take k after) → ((p : List Step) → Searched p → k ≤ length p) → drop k after ≡ drop k before → length after ≡ length before → Witnessed sheet l W work waiting before after guard goal s (Ok (Some k))
   witnessed_steps k fits good least later long =
-      ran (Ok (Some k)) (answered_steps (model_of sheet) l work waiting before after guard goal s sheet.questions.count Marked free k fits (by-marks _ good) (λ p g. least p (as-searched p g)) later long)
+      ran (Ok (Some k)) (answered_steps (model_of sheet) l work waiting before after guard goal s sheet.questions.count Marked free k fits (by_marks _ good) (λ p g. least p (as_searched p g)) later long)
 
   pub witnessed_long : (p : List Step) × Searched p → ((p : List Step) → Searched p → limit (length before) < length p) → after ≡ before → Witnessed sheet l W work waiting before after guard goal s (Err PathTooLong)
   witnessed_long some longer same =
-      ran (Err PathTooLong) (answered_long (model_of sheet) l work waiting before after guard goal s sheet.questions.count Marked free (some.0, by-marks some.0 some.1) (λ p g. longer p (as-searched p g)) same)
+      ran (Err PathTooLong) (answered_long (model_of sheet) l work waiting before after guard goal s sheet.questions.count Marked free (some.0, by_marks some.0 some.1) (λ p g. longer p (as_searched p g)) same)

@@ -107,8 +107,8 @@ module _ (g : Ground) (rules : List Rule) where
   fact_from h (Pair H B C) f r∈ (x, u, (q₁, w₁, d₁), (q₂, w₂, d₂)) =
       (q₁ ++ q₂, guarded_append g f.1 u f.2 q₁ q₂ w₁ w₂, (_, r∈, (x, word g.model q₁, word g.model q₂, word_append g.model q₁ q₂, d₁, d₂)))
 
-  as-derived : (h X : ℕ) (v w : Word) → w ≡ v → DerivesWithin rules h X v → DerivesWithin rules h X w
-  as-derived h X v w e d = subst (DerivesWithin rules h X) (sym e) d
+  as_derived : (h X : ℕ) (v w : Word) → w ≡ v → DerivesWithin rules h X v → DerivesWithin rules h X w
+  as_derived h X v w e d = subst (DerivesWithin rules h X) (sym e) d
 
   -- a fact of one height more is what a rule gives
   pub fact_to : (h : ℕ) (r : Rule) (f : Triple) (p : List Step) → Guarded g f.1 p f.2 → Yields r (DerivesWithin rules h) f.0 (word g.model p) → Gives g r (FactWithin g rules h) f
@@ -118,11 +118,11 @@ module _ (g : Ground) (rules : List Rule) where
   fact_to h (Letter H a) f (x ∷ []) w y = let e = y.1 in (_, w.1, (y.0, refl, ((cc), w.0, sym w.2.1)))
   fact_to h (Letter H a) f (x ∷ (x' ∷ q)) w y = let e = y.1 in let z : ◌≡◌ {A = ℕ} 0 1 = cc in absurd (omega arith)
   fact_to h (Lead H a B) f [] w y = let e = y.2 in let z : ◌≡◌ {A = ℕ} 0 1 = cc in absurd (omega arith)
-  fact_to h (Lead H a B) f (x ∷ q) w y = let e = y.2 in (_, w.1, (y.0, refl, ((cc), w.0, (q, w.2, as-derived h B y.1 (word g.model q) (cc) y.3))))
+  fact_to h (Lead H a B) f (x ∷ q) w y = let e = y.2 in (_, w.1, (y.0, refl, ((cc), w.0, (q, w.2, as_derived h B y.1 (word g.model q) (cc) y.3))))
   fact_to h (Same H B) f p w y = (y.0, (p, w, y.1))
   fact_to h (Pair H B C) f p w (x, u, v, e, d₁, d₂) =
       let (k, p₁, p₂, g₁, g₂, w₁, w₂) = guarded_split g f.1 f.2 p u v w e in
-      (x, k, (p₁, g₁, as-derived h B u (word g.model p₁) w₁ d₁), (p₂, g₂, as-derived h C v (word g.model p₂) w₂ d₂))
+      (x, k, (p₁, g₁, as_derived h B u (word g.model p₁) w₁ d₁), (p₂, g₂, as_derived h C v (word g.model p₂) w₂ d₂))
 
   -- one height more is what the rules give
   pub height_more : (h : ℕ) → Exactly (FactWithin g rules (suc h)) (ByRules g rules (FactWithin g rules h))

@@ -57,8 +57,8 @@ module _ (n x s : ℕ) (rows : List NumberSet) (row : NumberSet) (small : n ≤ 
   pub row_to_below : (t : ℕ) → Has row t → t < n
   row_to_below t h = (below (x, s, t) (omega arith, subst (λ y. Has y t) is_row h)).2
 
-  line-to : (k : ℕ) → (t : ℕ) × (k ≡ (x * n + s) * n + t) × Has row t → (k / n / n ≡ x) × (k / n % n ≡ s) × Holds rows (spot n k)
-  line-to k (t, e, h) =
+  line_to : (k : ℕ) → (t : ℕ) × (k ≡ (x * n + s) * n + t) × Has row t → (k / n / n ≡ x) × (k / n % n ≡ s) × Holds rows (spot n k)
+  line_to k (t, e, h) =
       let l = row_to_below t h in
       let line : k / n ≡ x * n + s = ap (λ q. q / n) e ∙ div-mul-add (x * n + s) n t l in
       let to : k % n ≡ t = ap (λ q. q % n) e ∙ mod-mul-add (x * n + s) n t l in
@@ -67,8 +67,8 @@ module _ (n x s : ℕ) (rows : List NumberSet) (row : NumberSet) (small : n ≤ 
       let there : Holds rows (x, s, t) = (omega arith, subst (λ y. Has y t) is_row h) in
       (symbol, from, subst (λ y. Holds rows (y, k / n % n, k % n)) (sym symbol) (subst (λ y. Holds rows (x, y, k % n)) (sym from) (subst (λ y. Holds rows (x, s, y)) (sym to) there)))
 
-  line-from : (k : ℕ) → (k / n / n ≡ x) × (k / n % n ≡ s) × Holds rows (spot n k) → (t : ℕ) × (k ≡ (x * n + s) * n + t) × Has row t
-  line-from k (e₁, e₂, h) =
+  line_from : (k : ℕ) → (k / n / n ≡ x) × (k / n % n ≡ s) × Holds rows (spot n k) → (t : ℕ) × (k ≡ (x * n + s) * n + t) × Has row t
+  line_from k (e₁, e₂, h) =
       let there = subst (λ y. Holds rows (x, y, k % n)) e₂ (subst (λ y. Holds rows (y, k / n % n, k % n)) e₁ h) in
       (k % n, place_of n x s k e₁ e₂, subst (λ y. Has y (k % n)) (sym is_row) there.1)
 
@@ -76,8 +76,8 @@ module _ (n x s : ℕ) (rows : List NumberSet) (row : NumberSet) (small : n ≤ 
   pub row_written : (v : ℕ) (before mid after : List ℕ) → Written (λ k. (k / n / n ≡ x) × (k / n % n < s) × Holds rows (spot n k)) v before mid → Written (λ k. (t : ℕ) × (k ≡ (x * n + s) * n + t) × Has row t) v mid after
       → Written (λ k. (k / n / n ≡ x) × (k / n % n < s + 1) × Holds rows (spot n k)) v before after
   row_written v before mid after a b = written_like _ _ v before after
-      (λ k. ⊎_elim (λ m. (m.0, omega (arith, m.1), m.2)) (λ d. let m = line-to k d in (m.0, omega (arith, m.1), m.2)))
-      (λ k m. elim (dec_lt (k / n % n) s) [ yes l ↦ inl (m.0, l, m.2) | no l ↦ inr (line-from k (m.0, omega (arith, m.1), m.2)) ])
+      (λ k. ⊎_elim (λ m. (m.0, omega (arith, m.1), m.2)) (λ d. let m = line_to k d in (m.0, omega (arith, m.1), m.2)))
+      (λ k m. elim (dec_lt (k / n % n) s) [ yes l ↦ inl (m.0, l, m.2) | no l ↦ inr (line_from k (m.0, omega (arith, m.1), m.2)) ])
       (written_both _ _ v before mid after a b)
 
 -- after this symbol those up to it are written

@@ -61,47 +61,47 @@ row_grown rows head s row out T within is grown j = record {
 
 -- one row of what a pair rule gives; of the middle states those with no fact on may be left out
 module _ (rows seconds : List NumberSet) (head left right s : ℕ) (starts middle : NumberSet) (within : s < 32)
-    (is-starts : Exactly (Has starts) (λ u. (u < 32) × (row_of seconds right u ≡ nothing → ⊥)))
-    (is-middle : Exactly (Has middle) (λ u. Has (row_of rows left s) u × Has starts u)) where
-  pair-to : (f : Triple) → InRow head s (Through (Has middle) (Holds seconds) right) f → StartingAt (ByPair head left right (Holds rows) (Holds seconds)) s f
-  pair-to f (h, e, m) =
-      (e, (h, m.0, subst (λ k. Holds rows (left, k, m.0)) (sym e) (within, ((is-middle m.0).0 m.1).0), m.2))
+    (is_starts : Exactly (Has starts) (λ u. (u < 32) × (row_of seconds right u ≡ nothing → ⊥)))
+    (is_middle : Exactly (Has middle) (λ u. Has (row_of rows left s) u × Has starts u)) where
+  pair_to : (f : Triple) → InRow head s (Through (Has middle) (Holds seconds) right) f → StartingAt (ByPair head left right (Holds rows) (Holds seconds)) s f
+  pair_to f (h, e, m) =
+      (e, (h, m.0, subst (λ k. Holds rows (left, k, m.0)) (sym e) (within, ((is_middle m.0).0 m.1).0), m.2))
 
-  pair-from : (f : Triple) → StartingAt (ByPair head left right (Holds rows) (Holds seconds)) s f → InRow head s (Through (Has middle) (Holds seconds) right) f
-  pair-from f (e, d) =
+  pair_from : (f : Triple) → StartingAt (ByPair head left right (Holds rows) (Holds seconds)) s f → InRow head s (Through (Has middle) (Holds seconds) right) f
+  pair_from f (e, d) =
       let there = subst (λ k. Holds rows (left, k, d.1)) e d.2 in
-      let start = (is-starts d.1).1 (d.3.0, λ none. has_none _ f.2 none d.3.1) in
-      (d.0, e, (d.1, (is-middle d.1).1 (there.1, start), d.3))
+      let start = (is_starts d.1).1 (d.3.0, λ none. has_none _ f.2 none d.3.1) in
+      (d.0, e, (d.1, (is_middle d.1).1 (there.1, start), d.3))
 
   pub pair_row : {P Q : Triple → Type 0} → Joined P Q (InRow head s (Through (Has middle) (Holds seconds) right)) → Joined P Q (StartingAt (ByPair head left right (Holds rows) (Holds seconds)) s)
-  pair_row j = joined_like _ _ pair-to pair-from j
+  pair_row j = joined_like _ _ pair_to pair_from j
 
 module _ (states head s : ℕ) (one : NumberSet) (within : s < states) (small : s < 32) (is_one : Exactly (Has one) (λ t. (t ≡ s) × (s < 32))) where
-  empty-to : (f : Triple) → InRow head s (Has one) f → StartingAt (ByEmpty states head) s f
-  empty-to f (h, e, o) = (e, (h, omega arith, e ∙ sym ((is_one f.2).0 o).0))
+  empty_to : (f : Triple) → InRow head s (Has one) f → StartingAt (ByEmpty states head) s f
+  empty_to f (h, e, o) = (e, (h, omega arith, e ∙ sym ((is_one f.2).0 o).0))
 
-  empty-from : (f : Triple) → StartingAt (ByEmpty states head) s f → InRow head s (Has one) f
-  empty-from f (e, d) = (d.0, e, (is_one f.2).1 (sym d.2 ∙ e, small))
+  empty_from : (f : Triple) → StartingAt (ByEmpty states head) s f → InRow head s (Has one) f
+  empty_from f (e, d) = (d.0, e, (is_one f.2).1 (sym d.2 ∙ e, small))
 
   pub empty_row : {P Q : Triple → Type 0} → Joined P Q (InRow head s (Has one)) → Joined P Q (StartingAt (ByEmpty states head) s)
-  empty_row j = joined_like _ _ empty-to empty-from j
+  empty_row j = joined_like _ _ empty_to empty_from j
 
-module _ (rows : List NumberSet) (head body s : ℕ) (out : NumberSet) (within : s < 32) (is-out : out ≡ row_of rows body s) where
-  same-to : (f : Triple) → InRow head s (Has out) f → StartingAt (BySame head body (Holds rows)) s f
-  same-to f (h, e, o) = (e, (h, subst (λ k. Holds rows (body, k, f.2)) (sym e) (within, subst (λ x. Has x f.2) is-out o)))
+module _ (rows : List NumberSet) (head body s : ℕ) (out : NumberSet) (within : s < 32) (is_out : out ≡ row_of rows body s) where
+  same_to : (f : Triple) → InRow head s (Has out) f → StartingAt (BySame head body (Holds rows)) s f
+  same_to f (h, e, o) = (e, (h, subst (λ k. Holds rows (body, k, f.2)) (sym e) (within, subst (λ x. Has x f.2) is_out o)))
 
   same_from : (f : Triple) → StartingAt (BySame head body (Holds rows)) s f → InRow head s (Has out) f
-  same_from f (e, d) = (d.0, e, subst (λ x. Has x f.2) (sym is-out) (subst (λ k. Holds rows (body, k, f.2)) e d.1).1)
+  same_from f (e, d) = (d.0, e, subst (λ x. Has x f.2) (sym is_out) (subst (λ k. Holds rows (body, k, f.2)) e d.1).1)
 
   pub same_row : {P Q : Triple → Type 0} → Joined P Q (InRow head s (Has out)) → Joined P Q (StartingAt (BySame head body (Holds rows)) s)
-  same_row j = joined_like _ _ same-to same_from j
+  same_row j = joined_like _ _ same_to same_from j
 
 -- what one edge adds
-module _ (edges : List Edge) (i : ℕ) (edge : Edge) (here : slice_get edges i ≡ Some edge) (head : ℕ) (out : NumberSet) (L : Edge → ℕ → Type 0) (is-out : Exactly (Has out) (L edge)) where
+module _ (edges : List Edge) (i : ℕ) (edge : Edge) (here : slice_get edges i ≡ Some edge) (head : ℕ) (out : NumberSet) (L : Edge → ℕ → Type 0) (is_out : Exactly (Has out) (L edge)) where
   pub edge_more : {P Q : Triple → Type 0} → Joined P Q (InRow head edge.from (Has out)) → Joined P Q (λ f. (e : Edge) × (slice_get edges i ≡ Some e) × InRow head e.from (L e) f)
   edge_more j = joined_like _ _
-      (λ f m. (edge, here, (m.0, m.1, (is-out f.2).0 m.2)))
-      (λ f m. let m' = subst (λ e. InRow head e.from (L e) f) (same_place edges i m.0 edge m.1 here) m.2 in (m'.0, m'.1, (is-out f.2).1 m'.2)) j
+      (λ f m. (edge, here, (m.0, m.1, (is_out f.2).0 m.2)))
+      (λ f m. let m' = subst (λ e. InRow head e.from (L e) f) (same_place edges i m.0 edge m.1 here) m.2 in (m'.0, m'.1, (is_out f.2).1 m'.2)) j
 
 -- all the elements are done
 pub among_all : {X Y : Type 0} {P Q : Y → Type 0} (xs : List X) (n : ℕ) (D : X → Y → Type 0) → length xs ≤ n → Joined P Q (Upto (λ k p. (x : X) × (slice_get xs k ≡ Some x) × D x p) n) → Joined P Q (λ p. (x : X) × Among x xs × D x p)

@@ -27,13 +27,13 @@ moment_none (stopped p c d) = omega arith
 moment_none (endless f c) = tt
 
 module _ (model : Model) (t : Table) (F K : ℕ → Type 0) where
-  breaks-here : (s q : ℕ) (π : Maximal model s) → Bad t K s q → BreaksAt F K (MarkedFrom t q) π 0
-  breaks-here s q π b =
+  breaks_here : (s q : ℕ) (π : Maximal model s) → Bad t K s q → BreaksAt F K (MarkedFrom t q) π 0
+  breaks_here s q π b =
       (moment_none π, subst (λ p. t.marked (run t q (word model p)) ≡ true) (sym (before_none π)) b.0, subst (λ p. K (end s p) → ⊥) (sym (before_none π)) b.1, λ k l. absurd (omega arith))
 
   pub doomed_breaks : (h s q : ℕ) → DoomedWithin model t F K h s q → (π : Maximal model s) → (n : ℕ) × (n < h) × BreaksAt F K (MarkedFrom t q) π n
   doomed_breaks zero s q b π = absurd b
-  doomed_breaks (suc h) s q (inl b) π = (0, omega arith, breaks-here s q π b)
+  doomed_breaks (suc h) s q (inl b) π = (0, omega arith, breaks_here s q π b)
   doomed_breaks (suc h) s q (inr (free, (x₀, e₀), all)) π = go (λ x e. doomed_breaks h x.state (step t q x.action) (all x e)) (split π)
     where
       go : ((x : Step) → HasEdge model (edge s x) → (ρ : Maximal model x.state) → (n : ℕ) × (n < h) × BreaksAt F K (MarkedFrom t (step t q x.action)) ρ n) → First π → (n : ℕ) × (n < suc h) × BreaksAt F K (MarkedFrom t q) π n

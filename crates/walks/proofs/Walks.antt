@@ -76,7 +76,7 @@ module _ (model : Model) (t : Table) (F K : ℕ → Type 0) (D : ℕ → ℕ →
   Choice s q = Dead model s ⊎ ((x : Step) × HasEdge model (edge s x) × ((Forced model t F D s q → ⊥) → (F s → ⊥) → D x.state (step t q x.action) → ⊥))
 
   pub choice : ((s q : ℕ) → Dec (D s q)) → (s q : ℕ) → Choice s q
-  choice decD s q = go (seek s (λ x. D x.state (step t q x.action) → ⊥) (λ x. flip (decD x.state (step t q x.action))) (edges_of model)) (seek s (λ x. Unit {0}) (λ x. yes tt) (edges_of model))
+  choice dec_d s q = go (seek s (λ x. D x.state (step t q x.action) → ⊥) (λ x. flip (dec_d x.state (step t q x.action))) (edges_of model)) (seek s (λ x. Unit {0}) (λ x. yes tt) (edges_of model))
     where
       flip : {P : Type 0} → Dec P → Dec (P → ⊥)
       flip (yes p) = no (λ n. n p)
@@ -88,7 +88,7 @@ module _ (model : Model) (t : Table) (F K : ℕ → Type 0) (D : ℕ → ℕ →
 
       go : ((x : Step) × HasEdge model (edge s x) × (D x.state (step t q x.action) → ⊥)) ⊎ ((x : Step) → HasEdge model (edge s x) → (D x.state (step t q x.action) → ⊥) → ⊥) → ((x : Step) × HasEdge model (edge s x) × Unit {0}) ⊎ ((x : Step) → HasEdge model (edge s x) → Unit {0} → ⊥) → Choice s q
       go (inl (x, e, n)) any = inr (x, e, λ _ _. n)
-      go (inr all) (inl (x, e, u)) = inr (x, e, λ unforced free d. unforced (free, (x, e), λ y f. sure (decD y.state (step t q y.action)) (all y f)))
+      go (inr all) (inl (x, e, u)) = inr (x, e, λ unforced free d. unforced (free, (x, e), λ y f. sure (dec_d y.state (step t q y.action)) (all y f)))
       go (inr all) (inr none) = inl (λ x e. none x e tt)
 
   abbrev land : (p : Pos) → Choice p.0 p.1 → Pos
@@ -103,9 +103,9 @@ module _ (model : Model) (t : Table) (F K : ℕ → Type 0) (D : ℕ → ℕ →
   Halt p (inl d) = Unit {0}
   Halt p (inr m) = ⊥
 
-  halt-dec : (p : Pos) (c : Choice p.0 p.1) → Dec (Halt p c)
-  halt-dec p (inl d) = yes tt
-  halt-dec p (inr m) = no (λ h. h)
+  halt_dec : (p : Pos) (c : Choice p.0 p.1) → Dec (Halt p c)
+  halt_dec p (inl d) = yes tt
+  halt_dec p (inr m) = no (λ h. h)
 
   moved : (p : Pos) (c : Choice p.0 p.1) → (Halt p c → ⊥) → HasEdge model (edge p.0 (step_of p c)) × (land p c ≡ ((step_of p c).state, step t p.1 (step_of p c).action))
   moved p (inl d) n = absurd (n tt)
@@ -140,9 +140,9 @@ module _ (model : Model) (t : Table) (F K : ℕ → Type 0) (D : ℕ → ℕ →
         let (e, is) = moved p (choose p.0 p.1) (m 0 (omega arith)) in
         ((e, subst (λ z. Chain model z.0 (first (path (after p)) n)) is ih.0), subst (λ z. end z.0 (first (path (after p)) n) ≡ (walk (after p) n).0) is ih.1, subst (λ z. run t z.1 (word model (first (path (after p)) n)) ≡ (walk (after p) n).1) is ih.2)
 
-    walk-add : (m n : ℕ) (p : Pos) → walk p (m + n) ≡ walk (walk p m) n
-    walk-add zero n p = ap (walk p) (zero-add n)
-    walk-add (suc m) n p = ap (walk p) (suc-add m n) ∙ walk-add m n (after p)
+    walk_add : (m n : ℕ) (p : Pos) → walk p (m + n) ≡ walk (walk p m) n
+    walk_add zero n p = ap (walk p) (zero-add n)
+    walk_add (suc m) n p = ap (walk p) (suc-add m n) ∙ walk_add m n (after p)
 
     -- a pair comes back: the walk goes on for ever
     module _ (N : ℕ) (p : Pos) (i j : ℕ) (less : i < j) (few : j ≤ N) (same : walk p i ≡ walk p j) (goes : (k : ℕ) → k ≤ N → Stops (walk p k) → ⊥) where
@@ -154,23 +154,23 @@ module _ (model : Model) (t : Table) (F K : ℕ → Type 0) (D : ℕ → ℕ →
           go back (yes h) = goes n h
           go back (no h) =
               let e : j + (n - j) ≡ n = omega arith in
-              let is : walk p n ≡ walk p (i + (n - j)) = ap (walk p) (sym e) ∙ walk-add j (n - j) p ∙ ap (λ r. walk r (n - j)) (sym same) ∙ sym (walk-add i (n - j) p) in
+              let is : walk p n ≡ walk p (i + (n - j)) = ap (walk p) (sym e) ∙ walk_add j (n - j) p ∙ ap (λ r. walk r (n - j)) (sym same) ∙ sym (walk_add i (n - j) p) in
               λ h. back (omega arith) (subst Stops is h)
 
     module _ (S A Q : ℕ) (within : (e : Edge) → HasEdge model e → Inside S A e) (told : (q a : ℕ) → q < Q → a < A → step t q a < Q) where
-      inside-after : (p : Pos) (c : Choice p.0 p.1) → p.0 < S → p.1 < Q → ((land p c).0 < S) × ((land p c).1 < Q)
-      inside-after p (inl d) a b = (a, b)
-      inside-after p (inr m) a b = let w = within _ m.1 in (w.2, told _ _ b w.1)
+      inside_after : (p : Pos) (c : Choice p.0 p.1) → p.0 < S → p.1 < Q → ((land p c).0 < S) × ((land p c).1 < Q)
+      inside_after p (inl d) a b = (a, b)
+      inside_after p (inr m) a b = let w = within _ m.1 in (w.2, told _ _ b w.1)
 
       inside : (n : ℕ) (p : Pos) → p.0 < S → p.1 < Q → ((walk p n).0 < S) × ((walk p n).1 < Q)
       inside zero p a b = (a, b)
-      inside (suc n) p a b = let i = inside-after p (choose p.0 p.1) a b in inside n (after p) i.0 i.1
+      inside (suc n) p a b = let i = inside_after p (choose p.0 p.1) a b in inside n (after p) i.0 i.1
 
-      module _ (dec_f : (s : ℕ) → Dec (F s)) (decK : (s : ℕ) → Dec (K s)) (clear : (s q : ℕ) → s < S → q < Q → (D s q → ⊥) → (Bad t K s q → ⊥) × (Forced model t F D s q → ⊥)) where
+      module _ (dec_f : (s : ℕ) → Dec (F s)) (dec_k : (s : ℕ) → Dec (K s)) (clear : (s q : ℕ) → s < S → q < Q → (D s q → ⊥) → (Bad t K s q → ⊥) × (Forced model t F D s q → ⊥)) where
         -- never doomed on the way, or freed before
         safe : (n : ℕ) (p : Pos) → p.0 < S → p.1 < Q → (D p.0 p.1 → ⊥) → ((k : ℕ) → k < n → Stops (walk p k) → ⊥) → (D (walk p n).0 (walk p n).1 → ⊥) ⊎ ((k : ℕ) × (k < n) × F (walk p k).0)
         safe zero p a b d m = inl d
-        safe (suc n) p a b d m = let i = inside-after p (choose p.0 p.1) a b in go (dec_f p.0) (λ nd. safe n (after p) i.0 i.1 nd (λ k l. m (suc k) (omega arith)))
+        safe (suc n) p a b d m = let i = inside_after p (choose p.0 p.1) a b in go (dec_f p.0) (λ nd. safe n (after p) i.0 i.1 nd (λ k l. m (suc k) (omega arith)))
           where
             go : Dec (F p.0) → ((D (after p).0 (after p).1 → ⊥) → (D (walk (after p) n).0 (walk (after p) n).1 → ⊥) ⊎ ((k : ℕ) × (k < n) × F (walk (after p) k).0))
                 → (D (walk p (suc n)).0 (walk p (suc n)).1 → ⊥) ⊎ ((k : ℕ) × (k < suc n) × F (walk p k).0)
@@ -179,14 +179,14 @@ module _ (model : Model) (t : Table) (F K : ℕ → Type 0) (D : ℕ → ℕ →
 
         kept_at : (n : ℕ) (p : Pos) → p.0 < S → p.1 < Q → (D p.0 p.1 → ⊥) → ((k : ℕ) → k < n → Stops (walk p k) → ⊥)
             → t.marked (run t p.1 (word model (first (path p) n))) ≡ true → K (end p.0 (first (path p) n)) ⊎ ((k : ℕ) × (k < n) × F (end p.0 (first (path p) k)))
-        kept_at n p a b d m mk = ⊎_elim (λ nd. inl (here (decK (walk p n).0) nd)) (λ f. inr (f.0, f.1, subst F (sym (along f.0 p (λ k l. m k (omega (arith, f.1)))).1) f.2)) (safe n p a b d m)
+        kept_at n p a b d m mk = ⊎_elim (λ nd. inl (here (dec_k (walk p n).0) nd)) (λ f. inr (f.0, f.1, subst F (sym (along f.0 p (λ k l. m k (omega (arith, f.1)))).1) f.2)) (safe n p a b d m)
           where
             here : Dec (K (walk p n).0) → (D (walk p n).0 (walk p n).1 → ⊥) → K (end p.0 (first (path p) n))
             here (yes k) nd = subst K (sym (along n p m).1) k
             here (no nk) nd = let i = inside n p a b in absurd ((clear _ _ i.0 i.1 nd).0 (subst (λ q. t.marked q ≡ true) (along n p m).2 mk, nk))
 
         pub keeps_some : (s q : ℕ) → s < S → q < Q → (D s q → ⊥) → (π : Maximal model s) × Keeps F K (MarkedFrom t q) π
-        keeps_some s q a b d = go (find (λ n. Stops (walk (s, q) n)) (λ n. let r = walk (s, q) n in halt-dec r (choose r.0 r.1)) (suc (S * Q)))
+        keeps_some s q a b d = go (find (λ n. Stops (walk (s, q) n)) (λ n. let r = walk (s, q) n in halt_dec r (choose r.0 r.1)) (suc (S * Q)))
           where
             p : Pos
             p = (s, q)
@@ -204,15 +204,15 @@ module _ (model : Model) (t : Table) (F K : ℕ → Type 0) (D : ℕ → ℕ →
                     ⊎_elim (λ k. inl (subst (λ z. K (end s z)) (sym e) k)) (λ f. inr (f.0, f.1, subst (λ z. F (end s z)) (sym (take_first (path (s, q)) f.0 n (omega (arith, f.1)))) f.2))
                     (kept_at i (s, q) a b d (λ k l. m k (omega arith)) (subst (λ z. t.marked (run t q (word model z)) ≡ true) e mk))
             go (inr none) =
-                let (i, j, ij, jN, same) = pigeon (S * Q) (λ n. (walk (s, q) n).0 * Q + (walk (s, q) n).1) (λ n l. let w = inside n (s, q) a b in place_below w.0 w.1) in
+                let (i, j, ij, j_n, same) = pigeon (S * Q) (λ n. (walk (s, q) n).0 * Q + (walk (s, q) n).1) (λ n l. let w = inside n (s, q) a b in place_below w.0 w.1) in
                 let wi = inside i (s, q) a b in let wj = inside j (s, q) a b in
                 let back : walk (s, q) i ≡ walk (s, q) j = place_same wi.1 wj.1 same in
-                let on = λ (n : ℕ). forever (S * Q) (s, q) i j ij jN back (λ k l. none k (omega arith)) n n (omega arith) in
+                let on = λ (n : ℕ). forever (S * Q) (s, q) i j ij j_n back (λ k l. none k (omega arith)) n n (omega arith) in
                 (endless (path (s, q)) (λ n. (along n (s, q) (λ k l. on k)).0), λ n mo mk. kept_at n (s, q) a b d (λ k l. on k) mk)
 
 -- where the pairs outside D are neither bad nor forced into D, each of them has a maximal path that keeps the release
 pub kept_outside : (model : Model) (t : Table) (F K : ℕ → Type 0) (D : ℕ → ℕ → Type 0) → Complete model.actions t → ((s : ℕ) → Dec (F s)) → ((s : ℕ) → Dec (K s)) → ((s q : ℕ) → Dec (D s q))
     → ((s q : ℕ) → s < model.states → q < t.states → (D s q → ⊥) → (Bad t K s q → ⊥) × (Forced model t F D s q → ⊥))
     → (s q : ℕ) → s < model.states → q < t.states → (D s q → ⊥) → SomeKeeps model F K (MarkedFrom t q) s
-kept_outside model t F K D whole dec_f decK decD clear =
-    keeps_some model t F K D (choice model t F K D decD) model.states model.actions t.states (edge_inside model) (step_below model.actions t whole) dec_f decK clear
+kept_outside model t F K D whole dec_f dec_k dec_d clear =
+    keeps_some model t F K D (choice model t F K D dec_d) model.states model.actions t.states (edge_inside model) (step_below model.actions t whole) dec_f dec_k clear

@@ -1,3 +1,4 @@
+-- The table that a step watcher tells: its steps are there, and a run over it counts the actions.
 use Rattle.std.specs.Prelude.{◌≡◌, ℕ, suc, ◌+◌, ◌%◌, ◌<◌, [], ◌∷◌, length, Some, nat_lt}
 use Rattle.std.proofs.Common.{sym, ap, ◌∙◌, arith, mod-lt, mod-eq_of_lt}
 use Rattle.std.proofs.Math.Nat.{mod-add-mod}

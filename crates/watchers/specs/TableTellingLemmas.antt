@@ -1,3 +1,4 @@
+-- The table that a table watcher tells: its steps are there, and a run over it ends where the stored steps lead.
 use Rattle.std.specs.Prelude.{◌≡◌, ℕ, ◌+◌, ◌*◌, ◌<◌, [], ◌∷◌, Some, nat_lt, refl}
 use Rattle.std.proofs.Common.{ap, ◌∙◌, arith}
 use Rattle.std.specs.Option.{unwrap_or}

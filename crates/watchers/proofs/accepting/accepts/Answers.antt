@@ -44,5 +44,5 @@ returns g c =
     record {
       cause = inr ((λ large. omega arith), refl);
       right = (λ is. g.met.W.Watcher.only_accepted l w few (same ∙ is), λ m. sym same ∙ g.met.W.Watcher.accepted l w few m);
-      known = λ is. let yes-it-is : c.is_marked.result ≡ true = cc in marked_known (g.W.Alphabet.known l) t (g.met.W.Watcher.complete l few) t.start w (same ∙ yes-it-is);
+      known = λ is. let yes_it_is : c.is_marked.result ≡ true = cc in marked_known (g.W.Alphabet.known l) t (g.met.W.Watcher.complete l few) t.start w (same ∙ yes_it_is);
     }

@@ -6,6 +6,6 @@ pub returns : goal.returns
 returns c = record {
   states_are = refl;
   actions_are = refl;
-  no_edge = refl;
+  edges_empty = refl;
   no_final = λ q. get_d_copies 16 false q;
 }
