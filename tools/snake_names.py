@@ -14,27 +14,18 @@ import sys
 WORD = r"[A-Za-z_][\w']*(?:-[\w']+)*"
 NAME = re.compile(r"(?<![\w'-])" + WORD)
 TOP = re.compile(r"^(?:(?:abbrev|unfoldable|pub|mutual) )*(" + WORD + r") :(?: |$)(.*)$")
-INNER = re.compile(r"^\s+(?:pub )?(" + WORD + r") : ")
+INNER = re.compile(r"^\s+(?:pub |\| ?)?(" + WORD + r") : ")
 # where snake case alone would give one name to two things
 APART = {"its-states": "states_of_ground", "no-rule": "rules_empty", "entry-of": "goal_entry"}
 # variables that stand beside such names in the lemmas
 VARIABLES = {"is-starts", "is-middle", "is-out", "ends-are", "left-are", "decK", "decD", "jN", "yes-it-is"}
-CASE = re.compile(r"^\s+\|?\s*(" + WORD + r") : ")
 
 
-def antt_files(root):
-    for folder, dirs, files in os.walk(os.path.join(root, "crates")):
+def files(root, ending):
+    for folder, dirs, names in os.walk(os.path.join(root, "crates")):
         dirs[:] = sorted(d for d in dirs if d not in ("out", ".git"))
-        for f in sorted(files):
-            if f.endswith(".antt"):
-                yield os.path.join(folder, f)
-
-
-def rt_files(root):
-    for folder, dirs, files in os.walk(os.path.join(root, "crates")):
-        dirs[:] = sorted(d for d in dirs if d not in ("out", ".git"))
-        for f in sorted(files):
-            if f.endswith(".rt"):
+        for f in sorted(names):
+            if f.endswith(ending):
                 yield os.path.join(folder, f)
 
 
@@ -50,22 +41,15 @@ def is_plain(name):
     return "-" not in name and (name[0].isupper() or name == snake(name))
 
 
-def declared(path, text):
-    """The names that a file declares, but not the answers and invariants, whose names are Rattle's."""
-    found, data = set(), False
+def declared(text):
+    """The names that a file declares, but not its answers and invariants, whose names are Rattle's."""
+    found = set()
     for line in text.split("\n"):
-        top = TOP.match(line)
-        if top and not re.match(r"(goal|need|goals|needs)\.", top.group(2)):
+        top, inner = TOP.match(line), INNER.match(line)
+        if top and not re.match(r"(goal|need)s?\.", top.group(2)):
             found.add(top.group(1))
-        inner = INNER.match(line)
         if inner:
             found.add(inner.group(1))
-        if line and not line[0].isspace():
-            data = line.startswith(("data ", "pub data ")) or " data " in line.split(":")[0]
-        elif data:
-            case = CASE.match(line)
-            if case:
-                found.add(case.group(1))
     return found
 
 
@@ -93,17 +77,18 @@ def main(argv):
     words = [a for a in argv if not a.startswith("--")]
     root = words[0] if words else os.path.join(os.path.dirname(os.path.abspath(__file__)), "..")
     own, library, all_names = set(), set(), set()
-    for path in antt_files(root):
+    for path in files(root, ".antt"):
         with open(path, encoding="utf-8") as f:
             text = f.read()
-        own |= declared(path, text)
+        own |= declared(text)
         for line in re.findall(r"use Rattle\.(?:std|core|borrow|mathlib)[\w.]*\.\{([^}]*)\}", text):
             library |= set(NAME.findall(line))
         all_names |= set(NAME.findall(text))
     names = {n: snake(n) for n in sorted(own | (VARIABLES & all_names)) if not is_plain(n)}
+    together = 0
     for n in sorted(set(names) & library):
         print(f"also a name of the library: {n}")
-    together = 0
+        together += 1
     for old, new in names.items():
         others = [o for o in names if o != old and names[o] == new]
         if others or new in all_names:
@@ -114,7 +99,7 @@ def main(argv):
         return 0
     if together:
         return 1
-    for path in list(antt_files(root)) + list(rt_files(root)):
+    for path in list(files(root, ".antt")) + list(files(root, ".rt")):
         with open(path, encoding="utf-8") as f:
             text = f.read()
         new = turned(text, names) if path.endswith(".antt") else clauses(text, names)
