@@ -8,8 +8,8 @@ use crate::filling::fill;
 use language::UntilLanguage;
 use model::NumberSet;
 
-// The symbols that derive the empty word. It is for crates of ours, with a language within the limits.
-pub fn emptying<L: UntilLanguage>(language: &L) -> NumberSet
+// The symbols that derive the empty word, of a language within the limits. Nothing calls it yet.
+pub(crate) fn emptying<L: UntilLanguage>(language: &L) -> NumberSet
     requires few { L.UntilLanguage.symbols language.now ≤ 16 }
     requires rules { length (L.UntilLanguage.rules language.now) ≤ 128 }
     ensures { Exactly (Has result) (λ x. (x < 16) × Derives (L.UntilLanguage.rules language.now) x []) }

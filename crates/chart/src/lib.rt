@@ -7,4 +7,3 @@ mod filling;
 mod table;
 
 pub use asking::derives;
-pub use empty_word::emptying;
