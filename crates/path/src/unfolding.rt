@@ -130,9 +130,8 @@ pub fn unfold<L: UntilLanguage>(
     }
     let mut pile = Pile::over(waiting);
     let _ = pile.push(fact);
-    let mut next = fact;
     let mut written = 0usize;
-    while let Some(()) = pile.pop(&mut next) {
+    while let Some(next) = pile.pop() {
         let found = split(work, language, scope, next);
         written = advance(found, next, &mut pile, steps, written);
     }

@@ -73,8 +73,7 @@ pub fn doomed<W: Watcher>(
         &mut pile,
         NumberSet::below(model.states()).without(kept),
     );
-    let mut top = Position { state: 0, watch: 0 };
-    'search: while let Some(()) = pile.pop(&mut top) {
+    'search: while let Some(top) = pile.pop() {
         expand(
             watcher,
             model,

@@ -1,4 +1,4 @@
-ghost use Rattle.std.specs.Prelude.{◌≡◌, ℕ, ◌≤◌, List, [], ◌∷◌, ◌++◌, length, MatchOption, MatchResult};
+ghost use Rattle.std.specs.Prelude.{◌≡◌, ℕ, ◌≤◌, List, [], ◌∷◌, ◌++◌, length, MatchOption, MatchResult, IsNone};
 ghost use Rattle.model.specs.Refusals.{refusal, Refuse, Accept};
 ghost use Rattle.pile.specs.Items.{items, room};
 
@@ -28,16 +28,16 @@ impl<'a, T: Copy> Pile<'a, T> {
         Ok(())
     }
 
-    // Takes the top record off into the place given; an empty pile answers none and leaves the place as it is.
-    pub fn pop(&mut self, place: &mut T) -> Option<()>
-        ensures items { MatchOption result ((items self.old ≡ []) × (items self.new ≡ []) × (place.new ≡ place.old)) (λ _. items self.old ≡ items self.new ++ place.new ∷ []) }
+    // Takes the top record off; an empty pile answers none and stays as it is.
+    pub fn pop(&mut self) -> Option<T>
+        ensures items { MatchOption result (items self.old ≡ []) (λ top. items self.old ≡ items self.new ++ top ∷ []) }
+        ensures unchanged { IsNone result → self.new ≡ self.old }
         ensures room { room self.new ≡ room self.old }
     {
         if self.count == 0 {
             return None;
         }
         self.count -= 1;
-        *place = self.slots[self.count];
-        Some(())
+        Some(self.slots[self.count])
     }
 }

@@ -24,13 +24,13 @@ loop-next-init g c =
 pub split-found-requires : goal.split-found-requires
 split-found-requires g c =
     let d = subst (λ fs. Doing c.args.scope.now (g.L.UntilLanguage.rules c.args.language.now) c.args.work.now c.args.fact c.args.count c.args.steps.now fs c.loop-next.steps c.loop-next.written) (reverse_last _ _ _ c.in-Some.ensures.items) c.loop-next.invariant.0 in
-    let t = turn c.args.scope.now (g.L.UntilLanguage.rules c.args.language.now) c.args.work.now c.args.fact c.args.count c.args.steps.now c.pop.new.place (reverse (items c.pop.new.self)) c.loop-next.steps c.loop-next.written (room c.pop.new.self) (omega (arith, c.loop-next.invariant.1, c.pop.ensures.room)) d in
+    let t = turn c.args.scope.now (g.L.UntilLanguage.rules c.args.language.now) c.args.work.now c.args.fact c.args.count c.args.steps.now c.in-Some.next (reverse (items c.pop.new.self)) c.loop-next.steps c.loop-next.written (room c.pop.new.self) (omega (arith, c.loop-next.invariant.1, c.pop.ensures.room)) d in
     record { sizes = c.requires.sizes; sound = c.requires.sound; known = (t.steps, c.requires.known.0, t.some, omega (arith, t.few, c.requires.known.1), omega (arith, t.few, c.requires.lengths.1.1), c.requires.known.2, t.known) }
 
 pub advance-written-requires : goal.advance-written-requires
 advance-written-requires g c =
     let d = subst (λ fs. Doing c.args.scope.now (g.L.UntilLanguage.rules c.args.language.now) c.args.work.now c.args.fact c.args.count c.args.steps.now fs c.loop-next.steps c.loop-next.written) (reverse_last _ _ _ c.in-Some.ensures.items) c.loop-next.invariant.0 in
-    let t = turn c.args.scope.now (g.L.UntilLanguage.rules c.args.language.now) c.args.work.now c.args.fact c.args.count c.args.steps.now c.pop.new.place (reverse (items c.pop.new.self)) c.loop-next.steps c.loop-next.written (room c.pop.new.self) (omega (arith, c.loop-next.invariant.1, c.pop.ensures.room)) d in
+    let t = turn c.args.scope.now (g.L.UntilLanguage.rules c.args.language.now) c.args.work.now c.args.fact c.args.count c.args.steps.now c.in-Some.next (reverse (items c.pop.new.self)) c.loop-next.steps c.loop-next.written (room c.pop.new.self) (omega (arith, c.loop-next.invariant.1, c.pop.ensures.room)) d in
     let space = t.space c.split-found.result c.split-found.ensures in
     let long = length-reverse (items c.pop.new.self) in
     (omega (arith, space.0), omega (arith, space.1, c.requires.lengths.0, c.loop-next.auto.steps))
@@ -38,28 +38,28 @@ advance-written-requires g c =
 pub loop-next-smaller : goal.loop-next-smaller
 loop-next-smaller g c =
     let d = subst (λ fs. Doing c.args.scope.now (g.L.UntilLanguage.rules c.args.language.now) c.args.work.now c.args.fact c.args.count c.args.steps.now fs c.loop-next.steps c.loop-next.written) (reverse_last _ _ _ c.in-Some.ensures.items) c.loop-next.invariant.0 in
-    let t = turn c.args.scope.now (g.L.UntilLanguage.rules c.args.language.now) c.args.work.now c.args.fact c.args.count c.args.steps.now c.pop.new.place (reverse (items c.pop.new.self)) c.loop-next.steps c.loop-next.written (room c.pop.new.self) (omega (arith, c.loop-next.invariant.1, c.pop.ensures.room)) d in
+    let t = turn c.args.scope.now (g.L.UntilLanguage.rules c.args.language.now) c.args.work.now c.args.fact c.args.count c.args.steps.now c.in-Some.next (reverse (items c.pop.new.self)) c.loop-next.steps c.loop-next.written (room c.pop.new.self) (omega (arith, c.loop-next.invariant.1, c.pop.ensures.room)) d in
     let space = t.space c.split-found.result c.split-found.ensures in
     let long = length-reverse (items c.pop.new.self) in
     let before = simp length-append at (ap length c.in-Some.ensures.items) in
     let after = simp length-append at (ap length c.advance-written.ensures.items) in
-    omega (arith, space.2, parts_length c.pop.new.place c.split-found.result, c.advance-written.ensures.written)
+    omega (arith, space.2, parts_length c.in-Some.next c.split-found.result, c.advance-written.ensures.written)
 
 pub loop-next-preserved : goal.loop-next-preserved
 loop-next-preserved g c =
     let d = subst (λ fs. Doing c.args.scope.now (g.L.UntilLanguage.rules c.args.language.now) c.args.work.now c.args.fact c.args.count c.args.steps.now fs c.loop-next.steps c.loop-next.written) (reverse_last _ _ _ c.in-Some.ensures.items) c.loop-next.invariant.0 in
-    let t = turn c.args.scope.now (g.L.UntilLanguage.rules c.args.language.now) c.args.work.now c.args.fact c.args.count c.args.steps.now c.pop.new.place (reverse (items c.pop.new.self)) c.loop-next.steps c.loop-next.written (room c.pop.new.self) (omega (arith, c.loop-next.invariant.1, c.pop.ensures.room)) d in
+    let t = turn c.args.scope.now (g.L.UntilLanguage.rules c.args.language.now) c.args.work.now c.args.fact c.args.count c.args.steps.now c.in-Some.next (reverse (items c.pop.new.self)) c.loop-next.steps c.loop-next.written (room c.pop.new.self) (omega (arith, c.loop-next.invariant.1, c.pop.ensures.room)) d in
     let space = t.space c.split-found.result c.split-found.ensures in
     let long = length-reverse (items c.pop.new.self) in
-    let more = doing_more c.args.scope.now (g.L.UntilLanguage.rules c.args.language.now) c.args.work.now c.args.fact c.args.count c.args.steps.now c.split-found.result c.pop.new.place (reverse (items c.pop.new.self)) c.loop-next.steps c.loop-next.written (omega (arith, space.1, c.requires.lengths.0, c.loop-next.auto.steps)) c.split-found.ensures d in (
+    let more = doing_more c.args.scope.now (g.L.UntilLanguage.rules c.args.language.now) c.args.work.now c.args.fact c.args.count c.args.steps.now c.split-found.result c.in-Some.next (reverse (items c.pop.new.self)) c.loop-next.steps c.loop-next.written (omega (arith, space.1, c.requires.lengths.0, c.loop-next.auto.steps)) c.split-found.ensures d in (
       subst (λ n. Doing c.args.scope.now (g.L.UntilLanguage.rules c.args.language.now) c.args.work.now c.args.fact c.args.count c.args.steps.now (reverse (items c.advance-written.new.pile)) c.advance-written.new.steps n) (sym c.advance-written.ensures.written)
           (subst (λ xs. Doing c.args.scope.now (g.L.UntilLanguage.rules c.args.language.now) c.args.work.now c.args.fact c.args.count c.args.steps.now (reverse (items c.advance-written.new.pile)) xs (c.loop-next.written + wrote c.split-found.result)) (sym c.advance-written.ensures.steps)
-          (subst (λ fs. Doing c.args.scope.now (g.L.UntilLanguage.rules c.args.language.now) c.args.work.now c.args.fact c.args.count c.args.steps.now fs (stepped c.split-found.result c.loop-next.steps c.loop-next.written) (c.loop-next.written + wrote c.split-found.result)) (sym (reverse_more (items c.advance-written.new.pile) (items c.pop.new.self) (parts c.pop.new.place c.split-found.result) c.advance-written.ensures.items)) more)),
+          (subst (λ fs. Doing c.args.scope.now (g.L.UntilLanguage.rules c.args.language.now) c.args.work.now c.args.fact c.args.count c.args.steps.now fs (stepped c.split-found.result c.loop-next.steps c.loop-next.written) (c.loop-next.written + wrote c.split-found.result)) (sym (reverse_more (items c.advance-written.new.pile) (items c.pop.new.self) (parts c.in-Some.next c.split-found.result) c.advance-written.ensures.items)) more)),
       omega (arith, c.loop-next.invariant.1, c.pop.ensures.room, c.advance-written.ensures.room),
     )
 
 pub returns : goal.returns
 returns g c =
-    let d = subst (λ fs. Doing c.args.scope.now (g.L.UntilLanguage.rules c.args.language.now) c.args.work.now c.args.fact c.args.count c.args.steps.now fs c.loop-next.steps c.loop-next.written) (ap reverse c.in_default.ensures.items.0) c.loop-next.invariant.0 in
+    let d = subst (λ fs. Doing c.args.scope.now (g.L.UntilLanguage.rules c.args.language.now) c.args.work.now c.args.fact c.args.count c.args.steps.now fs c.loop-next.steps c.loop-next.written) (ap reverse c.in_default.ensures.items) c.loop-next.invariant.0 in
     let (a, b, o) = doing_end c.args.scope.now (g.L.UntilLanguage.rules c.args.language.now) c.args.work.now c.args.fact c.args.count c.args.steps.now c.loop-next.steps c.loop-next.written d in
     record { guarded = a; derived = b; others = o }

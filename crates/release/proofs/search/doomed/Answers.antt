@@ -22,7 +22,7 @@ expand-requires g c =
     let t = g.W.Watcher.table c.args.watcher.now in
     let inv = c.search.invariant in
     let taken = c.in-Some.ensures in
-    let top = c.pop.new.place in
+    let top = c.in-Some.top in
     let inside = top_inside m t (Has c.args.freeing) c.search.found.rows c.search.pile c.pop.new.self top taken.items inv.1 in
     record {
       noted = inv.2;
@@ -39,7 +39,7 @@ pub search-preserved : goal.search-preserved
 search-preserved g c =
     let inv = c.search.invariant in
     let looked = c.expand.ensures.looked in (
-      ready_looked c.args.model.now (g.W.Watcher.table c.args.watcher.now) (Has c.args.freeing) c.search.found.rows c.search.pile c.pop.new.self c.pop.new.place c.in-Some.ensures.items inv.0 looked,
+      ready_looked c.args.model.now (g.W.Watcher.table c.args.watcher.now) (Has c.args.freeing) c.search.found.rows c.search.pile c.pop.new.self c.in-Some.top c.in-Some.ensures.items inv.0 looked,
       looked.roomy,
       c.expand.ensures.noted,
       (λ k s. looked.sound k (inv.3 k s)),
@@ -48,7 +48,7 @@ search-preserved g c =
 
 pub search-smaller : goal.search-smaller
 search-smaller g c =
-    turn_less c.args.model.now (g.W.Watcher.table c.args.watcher.now) (Has c.args.freeing) c.search.found.rows c.search.pile c.pop.new.self c.pop.new.place c.in-Some.ensures.items c.requires.0 c.expand.ensures.looked
+    turn_less c.args.model.now (g.W.Watcher.table c.args.watcher.now) (Has c.args.freeing) c.search.found.rows c.search.pile c.pop.new.self c.in-Some.top c.in-Some.ensures.items c.requires.0 c.expand.ensures.looked
 
 pub returns : goal.returns
 returns g c =
@@ -60,4 +60,4 @@ returns g c =
     doomed_all m t c.args.freeing c.args.kept c.search.found.rows c.of-charts.ensures.whole
     (inv.3 c.args.kept (sound_bad m t (Has c.args.freeing) (Has c.args.kept) c.doom_marked.new.found.rows (Has c.without.result) c.requires.0 begun.bad (λ s u. (unkept s).0 u)))
     (λ s q a b bad. inv.4 (s, q) ((begun.bad (s, q)).1 (b, bad.0, (unkept s).1 (a, bad.1))))
-    (ready_end m t (Has c.args.freeing) c.search.found.rows c.search.pile c.in_default.ensures.items.0 inv.0)
+    (ready_end m t (Has c.args.freeing) c.search.found.rows c.search.pile c.in_default.ensures.items inv.0)
