@@ -1,6 +1,10 @@
 // Why a call is turned away.
-ghost use Rattle.std.specs.Prelude.{◌≡◌};
+ghost use Rattle.std.specs.Prelude.{◌≡◌, Some};
+ghost use Rattle.std.specs.Fmt.{decimal};
 ghost use Rattle.model.specs.Refusals.{number as printed};
+
+use std::error::Error;
+use std::fmt;
 
 // Each case has the number that is printed for it; specs/Refusals gives the same numbers to the contracts.
 #[derive(Clone, Copy, PartialEq, Eq, Debug)]
@@ -43,3 +47,15 @@ impl Refusal {
         self as u8
     }
 }
+
+// A refusal prints as its number.
+impl fmt::Display for Refusal {
+    ghost output = { λ e. Some (decimal (printed e)) };
+
+    fn fmt<W: fmt::Write>(&self, f: &mut fmt::Formatter<W>) -> fmt::Result {
+        let number = self.number();
+        write!(f, "{number}")
+    }
+}
+
+impl Error for Refusal {}
