@@ -1,11 +1,14 @@
 -- The nearest state of the goal, and what it says of all good paths.
-use Rattle.std.proofs.Common.{◌≡◌, ℕ, ◌+◌, ◌-◌, ◌*◌, ◌<◌, ◌≤◌, Bool, true, false, List, [], ◌∷◌, length, get_or, Some, None, Option, sym, refl, ap, ◌∙◌, subst, arith, MatchOption}
+use Rattle.std.proofs.Common.{◌≡◌, ℕ, ◌+◌, ◌-◌, ◌*◌, ◌<◌, ◌≤◌, Bool, true, false, List, [], ◌∷◌, length, get_or, Some, None, Option, Result, sym, refl, ap, ◌∙◌, subst, arith, MatchResult}
 use native.Mathlib.Decide.{dec_lt}
+use Rattle.std.specs.Option.{ok_or}
 use Rattle.model.specs.declared.edge.Step.{Step}
 use Rattle.model.specs.declared.model.Model.{Model}
 use Rattle.model.specs.declared.number_set.NumberSet.{NumberSet}
 use Rattle.model.specs.Models.{HasEdge}
 use Rattle.model.specs.Sets.{Has}
+use Rattle.model.specs.declared.refusal.Refusal.{Refusal}
+use Rattle.model.specs.declared.refusal.Refusal.TheVariants.{PathTooLong}
 use Rattle.language.specs.declared.rule.Rule.{Rule}
 use Rattle.language.specs.Rules.{RulesWithin}
 use Rattle.language.specs.Derivations.{Derives}
@@ -95,10 +98,10 @@ pub sound_none : (c : Scope) (rules : List Rule) (w : List ℕ) → ((k : ℕ) �
 sound_none c rules w none p n kn = absurd (omega (arith, kn.is, none (place c.states p) (place_in c (c.symbols * c.states * c.states) p (omega arith) kn.there)))
 
 -- after the table is closed up to the top, whatever was found
-pub found_either : (c : Scope) (rules : List Rule) (w : List ℕ) (goal : NumberSet) (s top : ℕ) (b : Option ℕ) → Closed c rules top w → Best c w goal s top c.states b
-    → MatchOption b (Closed c rules top w × Far c w goal s top c.states) (λ to. (level : ℕ) × (level ≤ top) × Closed c rules level w × Nearest c w goal s level c.states to)
-found_either c rules w goal s top None closed best = (closed, best)
-found_either c rules w goal s top (Some t) closed best = (top, omega arith, closed, best)
+pub found_either : (c : Scope) (rules : List Rule) (w : List ℕ) (goal : NumberSet) (s top : ℕ) (b : Option ℕ) (r : Result ℕ Refusal) → r ≡ ok_or b PathTooLong → Closed c rules top w → Best c w goal s top c.states b
+    → MatchResult r (λ to. (level : ℕ) × (level ≤ top) × Closed c rules level w × Nearest c w goal s level c.states to) (λ refusal. (refusal ≡ PathTooLong) × Closed c rules top w × Far c w goal s top c.states)
+found_either c rules w goal s top None r e closed best = rw e (refl, closed, best)
+found_either c rules w goal s top (Some t) r e closed best = rw e (top, omega arith, closed, best)
 
 -- a scope over a model and a guard
 pub states_of_ground : (c : Scope) (m : Model) (guard : NumberSet) → ground_of c ≡ ground m guard → c.states ≡ m.states

@@ -1,16 +1,16 @@
 -- The path behind a yes: none, a shortest one, or only longer ones than fit.
-use Rattle.std.specs.Prelude.{◌≡◌, ℕ, ◌<◌, ◌≤◌, List, length, take, drop, Some, None, Option}
+use Rattle.std.specs.Prelude.{◌≡◌, ℕ, ◌<◌, ◌≤◌, List, length, take, drop, Some, None, Option, Ok, Err, Result}
 use Rattle.model.specs.declared.edge.Step.{Step}
 use Rattle.model.specs.declared.model.Model.{Model}
 use Rattle.model.specs.declared.number_set.NumberSet.{NumberSet}
+use Rattle.model.specs.declared.refusal.Refusal.{Refusal}
+use Rattle.model.specs.declared.refusal.Refusal.TheVariants.{PathTooLong}
 use Rattle.model.specs.Sets.{Has}
 use Rattle.language.specs.declared.rule.Rule.{Rule}
 use Rattle.language.specs.Derivations.{Derives}
 use Rattle.logic.specs.Paths.{Good, SomeGood}
 use Rattle.least.specs.declared.scope.Scope.{Scope}
 use Rattle.least.specs.Entries.{entry_of}
-use Rattle.path.specs.declared.witness.Witness.{Witness}
-use Rattle.path.specs.declared.witness.Witness.TheVariants.{Nothing, Steps, TooLong}
 
 -- the path from s is good for the guard, the goal and the words that symbol 0 derives
 abbrev pub GoodFor : Model → NumberSet → NumberSet → List Rule → ℕ → List Step → Type 0
@@ -19,11 +19,11 @@ GoodFor m guard goal rules s p = Good m (Has guard) (Has goal) (Derives rules 0)
 abbrev pub SomeGoodFor : Model → NumberSet → NumberSet → List Rule → ℕ → Type 0
 SomeGoodFor m guard goal rules s = SomeGood m (Has guard) (Has goal) (Derives rules 0) s
 
--- the witness is right, and the step list is as it should be: a path of n steps overwrites the first n, and nothing else is changed
-abbrev pub Shows : Model → NumberSet → NumberSet → List Rule → ℕ → ℕ → List Step → List Step → Witness → Type 0
-Shows m guard goal rules s limit before after Nothing = (SomeGoodFor m guard goal rules s → ⊥) × (after ≡ before)
-Shows m guard goal rules s limit before after (Steps n) = (n ≤ limit) × GoodFor m guard goal rules s (take n after) × ((p : List Step) → GoodFor m guard goal rules s p → n ≤ length p) × (drop n after ≡ drop n before) × (length after ≡ length before)
-Shows m guard goal rules s limit before after TooLong = SomeGoodFor m guard goal rules s × ((p : List Step) → GoodFor m guard goal rules s p → limit < length p) × (after ≡ before)
+-- the answer is right, and the step list is as it should be: none where no path is good; n steps overwrite the first n, and nothing else is changed; refused, and only so, where each good path is longer than the limit
+abbrev pub Shows : Model → NumberSet → NumberSet → List Rule → ℕ → ℕ → List Step → List Step → Result (Option ℕ) Refusal → Type 0
+Shows m guard goal rules s limit before after (Ok None) = (SomeGoodFor m guard goal rules s → ⊥) × (after ≡ before)
+Shows m guard goal rules s limit before after (Ok (Some n)) = (n ≤ limit) × GoodFor m guard goal rules s (take n after) × ((p : List Step) → GoodFor m guard goal rules s p → n ≤ length p) × (drop n after ≡ drop n before) × (length after ≡ length before)
+Shows m guard goal rules s limit before after (Err refusal) = (refusal ≡ PathTooLong) × SomeGoodFor m guard goal rules s × ((p : List Step) → GoodFor m guard goal rules s p → limit < length p) × (after ≡ before)
 
 -- among the first n states, t is of the goal and has the least entry of symbol 0 from s, which is at most top
 pub record Nearest (c : Scope) (w : List ℕ) (goal : NumberSet) (s top n t : ℕ) : Type 0 where

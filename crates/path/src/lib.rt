@@ -6,7 +6,5 @@ mod search;
 mod shrinking;
 mod split;
 mod unfolding;
-mod witness;
 
 pub use search::shortest;
-pub use witness::Witness;

@@ -1,17 +1,17 @@
 // The search for a shortest path into the goal.
-ghost use Rattle.std.specs.Prelude.{◌≡◌, ℕ, ◌+◌, ◌*◌, ◌<◌, ◌≤◌, min, true, length, MatchOption, slice_index};
+ghost use Rattle.std.specs.Prelude.{◌≡◌, ℕ, ◌+◌, ◌*◌, ◌<◌, ◌≤◌, min, true, length, MatchResult, slice_index};
 ghost use Rattle.model.specs.Relations.{Exactly};
 ghost use Rattle.model.specs.Sets.{Has};
+ghost use Rattle.model.specs.declared.refusal.Refusal.TheVariants.{PathTooLong};
 ghost use Rattle.language.specs.Rules.{RulesWithin};
 ghost use Rattle.least.specs.Entries.{Room, Sound, Closed};
 ghost use Rattle.least.specs.Lowering.{weight};
 ghost use Rattle.path.specs.Witnesses.{SomeGoodFor, Shows, Nearest, Far, Best};
 
 use crate::unfolding::unfold;
-use crate::witness::Witness;
 use language::UntilLanguage;
 use least::{Band, Fact, Scope, clear, settle, start, sweep};
-use model::{Model, NumberSet, Step};
+use model::{Model, NumberSet, Refusal, Step};
 
 // The better of the best so far and one state more.
 fn closer(
@@ -168,20 +168,21 @@ fn sought<L: UntilLanguage>(
     top: u32,
     goal: NumberSet,
     state: u8,
-) -> Option<u8>
+) -> Result<u8, Refusal>
     requires { (Room scope.now top (length work.old)) × ((RulesWithin scope.now.symbols (L.rules language.now)) × ((0 < scope.now.symbols) × (state < scope.now.states))) }
     ensures sound { Sound scope.now (L.rules language.now) work.new }
-    ensures found { MatchOption result (Closed scope.now (L.rules language.now) top work.new × Far scope.now work.new goal state top scope.now.states) (λ to. (level : ℕ) × (level ≤ top) × Closed scope.now (L.rules language.now) level work.new × Nearest scope.now work.new goal state level scope.now.states to) }
+    ensures found { MatchResult result (λ to. (level : ℕ) × (level ≤ top) × Closed scope.now (L.rules language.now) level work.new × Nearest scope.now work.new goal state level scope.now.states to) (λ refusal. (refusal ≡ PathTooLong) × Closed scope.now (L.rules language.now) top work.new × Far scope.now work.new goal state top scope.now.states) }
 {
     clear(work, scope.cells());
     let level = grow(work, language, scope, top, goal, state);
     if let Some(to) = settled(work, language, scope, level, goal, state) {
-        return Some(to);
+        return Ok(to);
     }
-    settled(work, language, scope, top, goal, state)
+    settled(work, language, scope, top, goal, state).ok_or(Refusal::PathTooLong)
 }
 
-// A shortest path from the state into the goal that is guarded before its end and whose word the language has, in the first places of the step list.
+// A shortest path from the state into the goal that is guarded before its end and whose word the language has, in the first places of the step list:
+// none, or how many steps it has; refused if only longer ones than fit are there.
 // The sheet calls it, with the set of all states that have such a path, and sees to it that language, state and lent memory are as asked.
 pub fn shortest<L: UntilLanguage>(
     language: &L,
@@ -193,35 +194,31 @@ pub fn shortest<L: UntilLanguage>(
     work: &mut [u32],
     waiting: &mut [Fact],
     steps: &mut [Step],
-) -> Witness
+) -> Result<Option<usize>, Refusal>
     requires sizes { (L.symbols language.now ≤ 16) × ((length (L.rules language.now) ≤ 128) × (state < model.now.states)) }
     requires lent { (L.symbols language.now * model.now.states * model.now.states ≤ length work.old) × (length steps.old ≤ length waiting.old) }
     requires marks { Exactly (Has satisfying) (λ s. (s < model.now.states) × SomeGoodFor model.now guard goal (L.rules language.now) s) }
     ensures { Shows model.now guard goal (L.rules language.now) state (min (length steps.old) 4096) steps.old steps.new result }
 {
     if !satisfying.has(state) {
-        return Witness::Nothing;
+        return Ok(None);
     }
     let scope = Scope::new(model, guard, language.symbol_count() as u8);
     let top = steps.len().min(4096) as u32 + 1;
-    match sought(work, language, &scope, top, goal, state) {
-        None => Witness::TooLong,
-        Some(to) => {
-            let count = work[scope.cell(0, state, to)] as usize - 1;
-            unfold(
-                work,
-                language,
-                &scope,
-                waiting,
-                steps,
-                Fact {
-                    symbol: 0,
-                    from: state,
-                    to,
-                },
-                count,
-            );
-            Witness::Steps(count)
-        }
-    }
+    let to = sought(work, language, &scope, top, goal, state)?;
+    let count = work[scope.cell(0, state, to)] as usize - 1;
+    unfold(
+        work,
+        language,
+        &scope,
+        waiting,
+        steps,
+        Fact {
+            symbol: 0,
+            from: state,
+            to,
+        },
+        count,
+    );
+    Ok(Some(count))
 }

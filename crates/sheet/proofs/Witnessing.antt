@@ -1,5 +1,5 @@
 -- A path call that is right for one account of the good paths is right for every other that agrees with it.
-use Rattle.std.proofs.Common.{◌≡◌, ℕ, ◌<◌, ◌≤◌, List, length, take, drop, Some, None, Ok, Err, Option, Result, sym, refl, subst, inl, inr, arith, MatchResult}
+use Rattle.std.proofs.Common.{◌≡◌, ℕ, ◌<◌, ◌≤◌, List, length, take, drop, Some, None, Ok, Err, Option, Result, sym, refl, ap, subst, inl, inr, arith, MatchResult}
 use Rattle.std.proofs.lemmas.List.{length-take}
 use Rattle.model.specs.declared.edge.Step.{Step}
 use Rattle.model.specs.declared.model.Model.{Model}
@@ -7,16 +7,18 @@ use Rattle.model.specs.declared.number_set.NumberSet.{NumberSet}
 use Rattle.model.specs.declared.refusal.Refusal.{Refusal}
 use Rattle.model.specs.Refusals.{number}
 use Rattle.model.specs.Sets.{Has}
+use Rattle.language.specs.declared.rule.Rule.{Rule}
 use Rattle.language.specs.Derivations.{Derives}
 use Rattle.language.specs.Words.{Word}
 use Rattle.logic.specs.Paths.{Good}
 use Rattle.logic.proofs.Mapping.{good_map}
+use Rattle.path.specs.Witnesses.{Shows as Found}
 use Rattle.sheet.specs.declared.sheet.Sheet.{Sheet}
 use Rattle.sheet.specs.Orders.{at}
 use Rattle.sheet.specs.Books.{formula, model_of}
 use Rattle.model.specs.declared.refusal.Refusal.TheVariants.{PathTooLong}
 use Rattle.sheet.specs.Causes.{Told, TooLong, CausePath, limit}
-use Rattle.sheet.specs.Witnesses.{Shows, Answered, Witnessed, GoodByMarks, GoodByBook}
+use Rattle.sheet.specs.Witnesses.{Unless24, Shows, Answered, Witnessed, GoodByMarks, GoodByBook}
 use Rattle.sheet.proofs.Chains.{later_like, last_like, path_pass, path_stop, none_good, searchable}
 use Rattle.sheet.proofs.Marking.{from_marks, to_marks}
 
@@ -112,13 +114,16 @@ module _ (sheet : Sheet) (l : Told) (W : Word → Type 0) (work waiting : ℕ) (
       let may = searchable (model_of sheet) l work waiting (length before) guard goal s sheet.questions.count free in
       witnessed_ran sheet l W work waiting before after guard goal s r may.state may.guarded may.aimed to from answered
 
-  pub witnessed_none : ((p : List Step) × Searched p → ⊥) → after ≡ before → Witnessed sheet l W work waiting before after guard goal s (Ok None)
-  witnessed_none none same = ran (Ok None) (answered_none (model_of sheet) l work waiting before after guard goal s sheet.questions.count Marked free (λ g. none (g.0, as_searched g.0 g.1)) same)
-
-  pub witnessed_steps : (k : ℕ) → k ≤ limit (length before) → Searched (take k after) → ((p : List Step) → Searched p → k ≤ length p) → drop k after ≡ drop k before → length after ≡ length before → Witnessed sheet l W work waiting before after guard goal s (Ok (Some k))
-  witnessed_steps k fits good least later long =
+  -- whatever the search shows
+  pub witnessed_shown : (r : Result (Option ℕ) Refusal) → Found (model_of sheet) a b l.rules s (limit (length before)) before after r → Witnessed sheet l W work waiting before after guard goal s r
+  witnessed_shown (Ok None) (none, same) =
+      ran (Ok None) (answered_none (model_of sheet) l work waiting before after guard goal s sheet.questions.count Marked free (λ g. none (g.0, as_searched g.0 g.1)) same)
+  witnessed_shown (Ok (Some k)) (fits, good, least, later, long) =
       ran (Ok (Some k)) (answered_steps (model_of sheet) l work waiting before after guard goal s sheet.questions.count Marked free k fits (by_marks _ good) (λ p g. least p (as_searched p g)) later long)
+  witnessed_shown (Err e) (is, some, longer, same) =
+      rw is (ran (Err PathTooLong) (answered_long (model_of sheet) l work waiting before after guard goal s sheet.questions.count Marked free (some.0, by_marks some.0 some.1) (λ p g. longer p (as_searched p g)) same))
 
-  pub witnessed_long : (p : List Step) × Searched p → ((p : List Step) → Searched p → limit (length before) < length p) → after ≡ before → Witnessed sheet l W work waiting before after guard goal s (Err PathTooLong)
-  witnessed_long some longer same =
-      ran (Err PathTooLong) (answered_long (model_of sheet) l work waiting before after guard goal s sheet.questions.count Marked free (some.0, by_marks some.0 some.1) (λ p g. longer p (as_searched p g)) same)
+-- the search refuses with 24 alone
+pub shown_unless : (m : Model) (a b : NumberSet) (rules : List Rule) (s limit : ℕ) (before after : List Step) (r : Result (Option ℕ) Refusal) (Same : Type 0) → Found m a b rules s limit before after r → Unless24 r Same
+shown_unless m a b rules s limit before after (Ok o) Same shown = tt
+shown_unless m a b rules s limit before after (Err e) Same shown = λ other. absurd (other (ap number shown.0))

@@ -7,7 +7,7 @@ use crate::sheet::Sheet;
 use language::UntilLanguage;
 use least::Fact;
 use model::{Refusal, Step};
-use path::{Witness, shortest};
+use path::shortest;
 use until::satisfying;
 
 impl Sheet<'_> {
@@ -38,12 +38,8 @@ impl Sheet<'_> {
         let holds = self.questions.get(guard).marks();
         let reached = self.questions.get(goal).marks();
         let some = satisfying(language, self.model, holds, reached, work);
-        match shortest(
+        shortest(
             language, self.model, holds, reached, some, state, work, waiting, steps,
-        ) {
-            Witness::Nothing => Ok(None),
-            Witness::Steps(n) => Ok(Some(n)),
-            Witness::TooLong => Err(Refusal::PathTooLong),
-        }
+        )
     }
 }

@@ -8,4 +8,4 @@ returns-in-Some g c =
 
 pub returns : goal.returns
 returns g c =
-    record { sound = c.settled-2.ensures.sound (c.settled.ensures.sound (c.grow-level.ensures.sound (sound_none c.args.scope.now (g.L.UntilLanguage.rules c.args.language.now) c.clear.new.work (λ k l. c.clear.ensures k (subst (λ n. k < n) (sym c.cells.ensures) l))))); found = found_either c.args.scope.now (g.L.UntilLanguage.rules c.args.language.now) c.settled-2.new.work c.args.goal c.args.state c.args.top c.settled-2.result c.settled-2.ensures.closed c.settled-2.ensures.best }
+    record { sound = c.settled-2.ensures.sound (c.settled.ensures.sound (c.grow-level.ensures.sound (sound_none c.args.scope.now (g.L.UntilLanguage.rules c.args.language.now) c.clear.new.work (λ k l. c.clear.ensures k (subst (λ n. k < n) (sym c.cells.ensures) l))))); found = found_either c.args.scope.now (g.L.UntilLanguage.rules c.args.language.now) c.settled-2.new.work c.args.goal c.args.state c.args.top c.settled-2.result c.ok_or.result c.ok_or.ensures.value c.settled-2.ensures.closed c.settled-2.ensures.best }

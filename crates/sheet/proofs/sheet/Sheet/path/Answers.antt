@@ -3,7 +3,7 @@ use Rattle.std.proofs.lemmas.Result.{err_from_is_err_and}
 use Rattle.sheet.specs.Books.{model_of}
 use Rattle.sheet.specs.Causes.{Told, told}
 use Rattle.sheet.proofs.Chains.{searchable}
-use Rattle.sheet.proofs.Witnessing.{witnessed_stopped, witnessed_none, witnessed_steps, witnessed_long}
+use Rattle.sheet.proofs.Witnessing.{witnessed_stopped, witnessed_shown, shown_unless}
 use Rattle.sheet.proofs.sheet.Sheet.path.Goals as goal
 
 pub returns-in_err-check_path : goal.returns-in_err-check_path
@@ -23,44 +23,15 @@ shortest-requires g c =
       marks = c.satisfying-some.ensures.derived;
     }
 
-pub returns-in-Nothing : goal.returns-in-Nothing
-returns-in-Nothing g c =
+pub returns : goal.returns
+returns g c =
     let free = c.in_ok-check_path.ensures in
     let language = c.args.language.now in
     let tells : Told = told (g.L.Alphabet.known language) (g.L.UntilLanguage.symbols language) (g.L.UntilLanguage.rules language) in
     let may = searchable (model_of c.args.self.now) tells _ _ _ _ _ _ _ free in
     let laws = g.met.L.UntilLanguage in
-    let shown = c.in-Nothing.ensures in
     record {
-      answer = witnessed_none _ tells _ _ _ _ _ _ _ _ _ _ (c.marks-holds.ensures ∙ ap (λ y. y.marks) c.get.ensures) (c.marks-reached.ensures ∙ ap (λ y. y.marks) c.get-2.ensures) free
-          (λ w. laws.derived language w may.symbols may.rules) (λ w. laws.only_derived language w may.symbols may.rules) shown.0 shown.1;
-      scratch = tt;
-    }
-
-pub returns-in-Steps : goal.returns-in-Steps
-returns-in-Steps g c =
-    let free = c.in_ok-check_path.ensures in
-    let language = c.args.language.now in
-    let tells : Told = told (g.L.Alphabet.known language) (g.L.UntilLanguage.symbols language) (g.L.UntilLanguage.rules language) in
-    let may = searchable (model_of c.args.self.now) tells _ _ _ _ _ _ _ free in
-    let laws = g.met.L.UntilLanguage in
-    let shown = c.in-Steps.ensures in
-    record {
-      answer = witnessed_steps _ tells _ _ _ _ _ _ _ _ _ _ (c.marks-holds.ensures ∙ ap (λ y. y.marks) c.get.ensures) (c.marks-reached.ensures ∙ ap (λ y. y.marks) c.get-2.ensures) free
-          (λ w. laws.derived language w may.symbols may.rules) (λ w. laws.only_derived language w may.symbols may.rules) c.in-Steps.n shown.0 shown.1 shown.2 shown.3 shown.4;
-      scratch = tt;
-    }
-
-pub returns-in-TooLong : goal.returns-in-TooLong
-returns-in-TooLong g c =
-    let free = c.in_ok-check_path.ensures in
-    let language = c.args.language.now in
-    let tells : Told = told (g.L.Alphabet.known language) (g.L.UntilLanguage.symbols language) (g.L.UntilLanguage.rules language) in
-    let may = searchable (model_of c.args.self.now) tells _ _ _ _ _ _ _ free in
-    let laws = g.met.L.UntilLanguage in
-    let shown = c.in-TooLong.ensures in
-    record {
-      answer = witnessed_long _ tells _ _ _ _ _ _ _ _ _ _ (c.marks-holds.ensures ∙ ap (λ y. y.marks) c.get.ensures) (c.marks-reached.ensures ∙ ap (λ y. y.marks) c.get-2.ensures) free
-          (λ w. laws.derived language w may.symbols may.rules) (λ w. laws.only_derived language w may.symbols may.rules) shown.0 shown.1 shown.2;
-      scratch = λ e. absurd (e refl);
+      answer = witnessed_shown _ tells _ _ _ _ _ _ _ _ _ _ (c.marks-holds.ensures ∙ ap (λ y. y.marks) c.get.ensures) (c.marks-reached.ensures ∙ ap (λ y. y.marks) c.get-2.ensures) free
+          (λ w. laws.derived language w may.symbols may.rules) (λ w. laws.only_derived language w may.symbols may.rules) c.shortest.result c.shortest.ensures;
+      scratch = shown_unless _ _ _ _ _ _ _ _ c.shortest.result _ c.shortest.ensures;
     }
