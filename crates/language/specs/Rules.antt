@@ -33,3 +33,7 @@ RulesWithin k rules = (r : Rule) → Among r rules → SymbolsBelow k r
 
 abbrev pub LettersWithin : ℕ → List Rule → Type 0
 LettersWithin n rules = (r : Rule) → Among r rules → ActionsBelow n r
+
+-- what some rule of a list says of a thing
+abbrev pub BySome : {Y : Type 0} → (Rule → Y → Type 0) → List Rule → Y → Type 0
+BySome says rules y = (r : Rule) × Among r rules × says r y

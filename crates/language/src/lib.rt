@@ -2,11 +2,15 @@
 #![tactic(auto)]
 
 mod alphabet;
+mod fitting;
 mod rule;
+mod rules;
 mod until_language;
 mod watcher;
 
 pub use alphabet::Alphabet;
+pub use fitting::Fitting;
 pub use rule::Rule;
+pub use rules::Rules;
 pub use until_language::UntilLanguage;
 pub use watcher::Watcher;

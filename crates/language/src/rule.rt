@@ -22,11 +22,11 @@ impl Rule {
         ensures { result ≡ head_of self }
     {
         match self {
-            Rule::Empty { head } => head,
-            Rule::Letter { head, .. } => head,
-            Rule::Lead { head, .. } => head,
-            Rule::Same { head, .. } => head,
-            Rule::Pair { head, .. } => head,
+            Rule::Empty { head }
+            | Rule::Letter { head, .. }
+            | Rule::Lead { head, .. }
+            | Rule::Same { head, .. }
+            | Rule::Pair { head, .. } => head,
         }
     }
 
