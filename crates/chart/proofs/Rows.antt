@@ -1,10 +1,8 @@
 -- A chart that is filled row by row.
-use Rattle.std.proofs.Common.{◌≡◌, ℕ, ◌+◌, ◌*◌, ◌<◌, ◌≤◌, List, length, get_or, set, Some, sym, refl, ap, ◌∙◌, subst, inl, inr, ⊎_elim, arith}
+use Rattle.std.proofs.Common.{◌≡◌, ℕ, ◌+◌, ◌*◌, ◌<◌, ◌≤◌, List, length, get_or, set, sym, refl, ap, ◌∙◌, subst, inl, inr, ⊎_elim, arith}
 use Rattle.std.proofs.lemmas.List.{get_or-set_same, get_or-set_other}
 use Rattle.std.proofs.lemmas.Bool.{cases_eq}
-use Rattle.model.specs.Relations.{Among, Joined, Exactly, Upto}
-use Rattle.model.proofs.Joins.{joined_like, place_before}
-use Rattle.std.specs.List.{slice_get}
+use Rattle.model.specs.Relations.{Joined, Exactly}
 use Rattle.language.specs.Rules.{SymbolsBelow}
 use Rattle.language.specs.declared.rule.Rule.{Rule}
 use Rattle.language.specs.declared.rule.Rule.TheVariants.{Empty, Letter, Lead, Same, Pair}
@@ -57,12 +55,6 @@ through_more rows rest rest' reached reached' row symbol place l is taken more j
   puts = λ t m. j.puts t (m.0, taken.keeps m.0 m.1, m.2);
   only = λ t m. ⊎_elim (λ h. inl (more.keeps t h)) (λ d. ⊎_elim (λ r. inr (d.0, r, d.2)) (λ e. inl (more.puts t (subst (λ n. Has n t) (sym is) (subst (λ u. Holds rows (symbol, u, t)) e d.2).1))) (taken.only d.0 d.1)) (j.only t m);
 }
-
--- all the elements are done
-pub among_all : {X Y : Type 0} {P Q : Y → Type 0} (xs : List X) (n : ℕ) (D : X → Y → Type 0) → length xs ≤ n → Joined P Q (Upto (λ k p. (x : X) × (slice_get xs k ≡ Some x) × D x p) n) → Joined P Q (λ p. (x : X) × Among x xs × D x p)
-among_all xs n D done j = joined_like _ _
-    (λ p m. (m.2.0, (m.0, m.2.1), m.2.2))
-    (λ p m. (m.1.0, omega (arith, place_before xs m.1.0 m.0 m.1.1), (m.0, m.1.1, m.2))) j
 
 -- symbols below k are below more
 pub symbols_more : (k n : ℕ) → k ≤ n → (r : Rule) → SymbolsBelow k r → SymbolsBelow n r

@@ -5,21 +5,19 @@ ghost use Rattle.language.specs.Words.{Known};
 ghost use Rattle.chart.specs.Causes.{CauseDerives};
 
 use crate::filling::fill;
-use language::UntilLanguage;
+use language::{Fitting, UntilLanguage};
 use model::Refusal;
 
 // A word of more than 31 actions is refused, and so is a language with more than 16 symbols or 128 rules; a word of the set has known actions alone.
 pub fn derives<L: UntilLanguage>(language: &L, word: &[u8]) -> Result<bool, Refusal>
-    ensures cause { CauseDerives word.now (L.UntilLanguage.symbols language.now) (L.UntilLanguage.rules language.now) (refusal result) }
-    ensures right { IfOk result (λ yes. Decides yes (L.UntilLanguage.words language.now word.now)) }
-    ensures known { result ≡ Ok true → Known (L.Alphabet.known language.now) word.now }
+    ensures cause { CauseDerives word.now (L.symbols language.now) (L.rules language.now) (refusal result) }
+    ensures right { IfOk result (λ yes. Decides yes (L.words language.now word.now)) }
+    ensures known { result ≡ Ok true → Known (L.known language.now) word.now }
 {
     if word.len() > 31 {
         return Err(Refusal::OutOfRange);
     }
-    if language.symbol_count() > 16 || language.rule_count() > 128 {
-        return Err(Refusal::TooLarge);
-    }
-    let chart = fill(language, word);
+    let language = Fitting::of(language)?;
+    let chart = fill(&language, word);
     Ok(chart.row(0, 0).has(word.len() as u8))
 }

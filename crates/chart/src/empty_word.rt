@@ -1,21 +1,18 @@
 // Which symbols of an until language derive the empty word.
-ghost use Rattle.std.specs.Prelude.{◌<◌, ◌≤◌, [], length};
+ghost use Rattle.std.specs.Prelude.{◌<◌, []};
 ghost use Rattle.model.specs.Relations.{Exactly};
 ghost use Rattle.model.specs.Sets.{Has};
 ghost use Rattle.language.specs.Derivations.{Derives};
 
 use crate::filling::fill;
-use language::UntilLanguage;
+use language::{Fitting, UntilLanguage};
 use model::NumberSet;
 
 // The symbols that derive the empty word, of a language within the limits. Nothing calls it yet.
-pub(crate) fn emptying<L: UntilLanguage>(language: &L) -> NumberSet
-    requires few { L.UntilLanguage.symbols language.now ≤ 16 }
-    requires rules { length (L.UntilLanguage.rules language.now) ≤ 128 }
-    ensures { Exactly (Has result) (λ x. (x < 16) × Derives (L.UntilLanguage.rules language.now) x []) }
+pub(crate) fn emptying<L: UntilLanguage>(language: &Fitting<L>) -> NumberSet
+    ensures { Exactly (Has result) (λ x. (x < 16) × Derives (L.rules language.now) x []) }
 {
-    let no_action: [u8; 0] = [];
-    let chart = fill(language, &no_action);
+    let chart = fill(language, &[]);
     let mut found = NumberSet::empty();
     for symbol in 0..16u8 {
         if chart.row(symbol, 0).has(0) {

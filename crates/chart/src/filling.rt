@@ -7,7 +7,7 @@ ghost use Rattle.language.specs.Rules.{SymbolsBelow};
 ghost use Rattle.chart.specs.Charts.{Holds, Gives, ByRule, ByRules, Stretch};
 
 use crate::table::Chart;
-use language::{Rule, UntilLanguage};
+use language::{Fitting, Rule, UntilLanguage};
 use model::NumberSet;
 
 // Whether the action stands at a place of the word.
@@ -59,34 +59,28 @@ fn add_rule(next: &mut Chart, chart: &Chart, rule: Rule, word: &[u8])
 }
 
 // What the chart has, with what each rule gives from it.
-fn round<L: UntilLanguage>(language: &L, word: &[u8], chart: &Chart) -> Chart
-    requires few { L.UntilLanguage.symbols language.now ≤ 16 }
-    requires rules { length (L.UntilLanguage.rules language.now) ≤ 128 }
-    requires short { length word.now ≤ 31 }
-    ensures { Joined (Holds chart.now.rows) (Holds result.rows) (ByRules word.now (L.UntilLanguage.rules language.now) (Holds chart.now.rows)) }
+fn round<L: UntilLanguage>(language: &Fitting<L>, word: &[u8], chart: &Chart) -> Chart
+    requires { length word.now ≤ 31 }
+    ensures { Joined (Holds chart.now.rows) (Holds result.rows) (ByRules word.now (L.rules language.now) (Holds chart.now.rows)) }
 {
     let mut next = *chart;
-    for place in 0..language.rule_count() {
-        if let Some(rule) = language.rule(place) {
-            add_rule(&mut next, chart, rule, word);
-        }
+    for rule in language.rules() {
+        add_rule(&mut next, chart, rule, word);
     }
     next
 }
 
 // All facts about the word: round by round, until a round adds none.
-pub(crate) fn fill<L: UntilLanguage>(language: &L, word: &[u8]) -> Chart
-    requires few { L.UntilLanguage.symbols language.now ≤ 16 }
-    requires rules { length (L.UntilLanguage.rules language.now) ≤ 128 }
-    requires short { length word.now ≤ 31 }
-    ensures { Exactly (Holds result.rows) (Stretch word.now (L.UntilLanguage.rules language.now)) }
+pub(crate) fn fill<L: UntilLanguage>(language: &Fitting<L>, word: &[u8]) -> Chart
+    requires { length word.now ≤ 31 }
+    ensures { Exactly (Holds result.rows) (Stretch word.now (L.rules language.now)) }
 {
     let mut chart = Chart::empty();
-    let mut changed = true;
-    while changed {
+    loop {
         let next = round(language, word, &chart);
-        changed = !next.same(&chart);
+        if next.same(&chart) {
+            return chart;
+        }
         chart = next;
     }
-    chart
 }

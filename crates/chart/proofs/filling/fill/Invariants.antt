@@ -1,13 +1,9 @@
-use Rattle.std.proofs.Common.{◌≡◌, ◌+◌, false, cond}
-use Rattle.chart.specs.Charts.{Triple, Holds, Stretch, ByRules}
+use Rattle.chart.specs.Charts.{Triple, Holds, Stretch}
 use Rattle.chart.proofs.Rooms.{room}
 use Rattle.chart.proofs.filling.fill.Given as goal
 
-abbrev pub invariant-loop-changed : goal.invariant-loop-changed
-invariant-loop-changed g l =
-    let rules = g.L.UntilLanguage.rules l.language in
-    ((p : Triple) → Holds l.chart.rows p → Stretch l.word rules p)
-    × (l.changed ≡ false → (p : Triple) → ByRules l.word rules (Holds l.chart.rows) p → Holds l.chart.rows p)
+abbrev pub invariant-loop-next : goal.invariant-loop-next
+invariant-loop-next g l = (p : Triple) → Holds l.chart.rows p → Stretch l.word (g.L.UntilLanguage.rules l.language) p
 
-abbrev pub decreases-loop-changed : goal.decreases-loop-changed
-decreases-loop-changed g l = room l.chart.rows + cond l.changed 1 0
+abbrev pub decreases-loop-next : goal.decreases-loop-next
+decreases-loop-next g l = room l.chart.rows
