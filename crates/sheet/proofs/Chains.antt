@@ -59,11 +59,11 @@ pub passed : {C L : Type 0} {k : ℕ} → (C × (◌≡◌ {A = Option ℕ} None
 passed (inl met) = none_some met.1
 passed (inr met) = met
 
-pub until_parts : (m : Model) (l : Told) (work guard goal n : ℕ) → CauseUntil m l work guard goal n None → (guard < n) × (goal < n)
-until_parts m l work guard goal n free = parts_there n guard goal (passed (passed (passed free).1).1).1
+pub until_there : (m : Model) (l : Told) (work guard goal n : ℕ) → CauseUntil m l work guard goal n None → (guard < n) × (goal < n)
+until_there m l work guard goal n free = parts_there n guard goal (passed (passed (passed free).1).1).1
 
-pub release_parts : (m : Model) (known : ℕ) (t : Table) (freeing kept n : ℕ) → CauseRelease m known t freeing kept n None → (freeing < n) × (kept < n)
-release_parts m known t freeing kept n free = parts_there n freeing kept (passed (passed free).1).1
+pub release_there : (m : Model) (known : ℕ) (t : Table) (freeing kept n : ℕ) → CauseRelease m known t freeing kept n None → (freeing < n) × (kept < n)
+release_there m known t freeing kept n free = parts_there n freeing kept (passed (passed free).1).1
 
 not_le : {a b : ℕ} → (a ≤ b → ⊥) → b < a
 not_le {a} {b} none = elim (cases_lt b a) [ inl l ↦ l | inr l ↦ absurd (none l) ]

@@ -1,5 +1,5 @@
 -- A sheet that stands under a book stands under the longer book after a question is added.
-use Rattle.std.proofs.Common.{◌≡◌, ℕ, ◌+◌, ◌<◌, [], ◌∷◌, ◌++◌, length, Some, None, Ok, Err, Option, sym, refl, ap, ◌∙◌, subst, inl, inr, arith}
+use Rattle.std.proofs.Common.{◌≡◌, ℕ, ◌+◌, ◌<◌, [], ◌∷◌, ◌++◌, List, length, Some, None, Ok, Err, Option, sym, refl, ap, ◌∙◌, subst, inl, inr, arith}
 use Rattle.std.proofs.lemmas.List.{length_push, get_or_push, get_or_append_left}
 use Rattle.std.proofs.lemmas.Bool.{cases_lt}
 use Rattle.model.specs.declared.number_set.NumberSet.{NumberSet}
@@ -10,19 +10,26 @@ use Rattle.model.specs.Sets.{Has}
 use Rattle.logic.specs.Formulas.{Formula, neg, or, until, release}
 use Rattle.sheet.specs.declared.sheet.Sheet.{Sheet}
 use Rattle.sheet.specs.declared.question.Question.{Question}
-use Rattle.sheet.specs.declared.question.Questions.{Questions}
 use Rattle.sheet.specs.declared.question.Form.{Form}
 use Rattle.sheet.specs.declared.question.Form.TheVariants.{Proposition, Not, Or, Until, Release}
 use Rattle.sheet.specs.Orders.{at, Part, Added}
 use Rattle.sheet.specs.Books.{Book, formula, Reads, Marks, Stands, model_of}
 use Rattle.sheet.specs.Asking.{Right, Asked}
 
--- what holds of each question and of the new one holds of each after it is added
-each_more : (P : ℕ → Question → Type 0) (before after : Questions) (x : Question) → Added before after x → ((k : ℕ) → k < before.count → P k (at before k)) → P before.count x → (k : ℕ) → k < after.count → P k (at after k)
-each_more P before after x ad each here k h = elim (cases_lt k before.count) [
-  | inl l ↦ subst (λ y. P k y) (sym (ad.kept k l)) (each k l)
-  | inr l ↦ let e : before.count ≡ k = omega (arith, ad.count) in subst (λ n. P n (at after n)) e (subst (λ y. P before.count y) (sym ad.last) here)
-]
+-- after one question more
+module _ (before after : List Question) (x : Question) (added : Added before after x) where
+  longer : length after ≡ length before + 1
+  longer = ap length added ∙ length_push before x
+
+  newest : at after (length before) ≡ x
+  newest = ap (λ qs. at qs (length before)) added ∙ get_or_push before x _ (length before) refl
+
+  -- what holds of each question and of the new one holds of each
+  each_more : (P : ℕ → Question → Type 0) → ((k : ℕ) → k < length before → P k (at before k)) → P (length before) x → (k : ℕ) → k < length after → P k (at after k)
+  each_more P each here k h = elim (cases_lt k (length before)) [
+    | inl l ↦ subst (λ y. P k y) (sym (ap (λ qs. at qs k) added ∙ get_or_append_left before (x ∷ []) _ k l)) (each k l)
+    | inr l ↦ let e : length before ≡ k = omega (arith, longer) in subst (λ n. P n (at after n)) e (subst (λ y. P (length before) y) (sym newest) here)
+  ]
 
 -- a form reads the same in a longer book, if its parts are in the shorter one
 reads_more : (book : Book) (g : Formula) (form : Form) (f : Formula) → ((p : ℕ) → Part form p → p < length book) → Reads book form f → Reads (book ++ g ∷ []) form f
@@ -41,30 +48,39 @@ reads_more book g form f low = go form low
     go (Until a b) low r = (r.0, r.1 ∙ both a b (low a (inl refl)) (low b (inr refl)) (λ x y. until x y r.0))
     go (Release a b) low r = (r.0, r.1 ∙ both a b (low a (inl refl)) (low b (inr refl)) (λ x y. release x y r.0))
 
-pub stands_more : (old new : Sheet) (book : Book) (x : Question) (f : Formula) → model_of new ≡ model_of old → Stands book old → Added old.questions new.questions x → Marks (model_of old) f x.marks → Reads book x.form f → Stands (book ++ f ∷ []) new
+pub stands_more : (old new : Sheet) (book : Book) (x : Question) (f : Formula) → model_of new ≡ model_of old → Stands book old → Added old.questions.items new.questions.items x → Marks (model_of old) f x.marks → Reads book x.form f → Stands (book ++ f ∷ []) new
 stands_more old new book x f same st ad mk re = record {
-  long = length_push book f ∙ ap (λ n. n + 1) st.long ∙ sym ad.count;
-  right = subst (λ m. (q : ℕ) → q < new.questions.count → Marks m (formula (book ++ f ∷ []) q) (at new.questions q).marks) (sym same)
-      (each_more (λ q y. Marks (model_of old) (formula (book ++ f ∷ []) q) y.marks) old.questions new.questions x ad
-      (λ q h. subst (λ g. Marks (model_of old) g (at old.questions q).marks) (sym (kept q h)) (st.right q h))
+  long = length_push book f ∙ ap (λ n. n + 1) st.long ∙ sym more;
+  right = subst (λ m. (q : ℕ) → q < length after → Marks m (formula (book ++ f ∷ []) q) (at after q).marks) (sym same)
+      (each_more before after x ad (λ q y. Marks (model_of old) (formula (book ++ f ∷ []) q) y.marks)
+      (λ q h. subst (λ g. Marks (model_of old) g (at before q).marks) (sym (kept q h)) (st.right q h))
       (subst (λ g. Marks (model_of old) g x.marks) (sym last) mk));
-  shaped = each_more (λ q y. Reads (book ++ f ∷ []) y.form (formula (book ++ f ∷ []) q)) old.questions new.questions x ad
-      (λ q h. subst (λ g. Reads (book ++ f ∷ []) (at old.questions q).form g) (sym (kept q h))
-      (reads_more book f (at old.questions q).form (formula book q) (λ p t. omega (arith, st.long, old.lower q p h t)) (st.shaped q h)))
+  shaped = each_more before after x ad (λ q y. Reads (book ++ f ∷ []) y.form (formula (book ++ f ∷ []) q))
+      (λ q h. subst (λ g. Reads (book ++ f ∷ []) (at before q).form g) (sym (kept q h))
+      (reads_more book f (at before q).form (formula book q) (λ p t. omega (arith, st.long, old.lower q p h t)) (st.shaped q h)))
       (subst (λ g. Reads (book ++ f ∷ []) x.form g) (sym last)
-      (reads_more book f x.form f (λ p t. omega (arith, st.long, new.lower old.questions.count p (omega (arith, ad.count)) (subst (λ y. Part y.form p) (sym ad.last) t))) re));
+      (reads_more book f x.form f (λ p t. omega (arith, st.long, new.lower (length before) p (omega (arith, more)) (subst (λ y. Part y.form p) (sym (newest before after x ad)) t))) re));
 }
   where
-    kept : (q : ℕ) → q < old.questions.count → formula (book ++ f ∷ []) q ≡ formula book q
+    before : List Question
+    before = old.questions.items
+
+    after : List Question
+    after = new.questions.items
+
+    more : length after ≡ length before + 1
+    more = longer before after x ad
+
+    kept : (q : ℕ) → q < length before → formula (book ++ f ∷ []) q ≡ formula book q
     kept q h = get_or_append_left book (f ∷ []) _ q (omega (arith, st.long))
 
-    last : formula (book ++ f ∷ []) old.questions.count ≡ f
-    last = get_or_push book f _ old.questions.count st.long
+    last : formula (book ++ f ∷ []) (length before) ≡ f
+    last = get_or_push book f _ (length before) st.long
 
 -- what an accepted asking call promises, from what it did
 module _ (old new : Sheet) (Cause : ℕ → Option ℕ → Type 0) (form : Form) (M : ℕ → Type 0) (f : Book → Formula) (x : NumberSet) (r : ℕ)
-    (free : Cause old.questions.count None) (number : r ≡ old.questions.count) (same : model_of new ≡ model_of old)
-    (added : Added old.questions new.questions (record { form = form; marks = x })) (exact : Exactly (Has x) M)
+    (free : Cause (length old.questions.items) None) (number : r ≡ length old.questions.items) (same : model_of new ≡ model_of old)
+    (added : Added old.questions.items new.questions.items (record { form = form; marks = x })) (exact : Exactly (Has x) M)
     (marks : (book : Book) → Stands book old → Marks (model_of old) (f book) x) (reads : (book : Book) → Reads book form (f book)) where
   right : (book : Book) → Stands book old → Right old new Cause f (Ok r) book
   right book st = record {
@@ -77,7 +93,7 @@ module _ (old new : Sheet) (Cause : ℕ → Option ℕ → Type 0) (form : Form)
   asked = record { cause = free; done = (number, record { marks = x; exact = exact; added = added; model = same }); right = right }
 
 -- what a refused asking call promises: the sheet is as it was
-pub asked_refused : (sheet : Sheet) (Cause : ℕ → Option ℕ → Type 0) (form : Form) (M : ℕ → Type 0) (f : Book → Formula) (e : Refusal) → Cause sheet.questions.count (Some (number e)) → Asked sheet sheet Cause form M f (Err e)
+pub asked_refused : (sheet : Sheet) (Cause : ℕ → Option ℕ → Type 0) (form : Form) (M : ℕ → Type 0) (f : Book → Formula) (e : Refusal) → Cause (length sheet.questions.items) (Some (number e)) → Asked sheet sheet Cause form M f (Err e)
 asked_refused sheet Cause form M f e met = record {
   cause = met;
   done = refl;

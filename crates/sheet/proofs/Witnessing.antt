@@ -14,7 +14,7 @@ use Rattle.logic.specs.Paths.{Good}
 use Rattle.logic.proofs.Mapping.{good_map}
 use Rattle.path.specs.Witnesses.{Shows as Found}
 use Rattle.sheet.specs.declared.sheet.Sheet.{Sheet}
-use Rattle.sheet.specs.Orders.{at}
+use Rattle.sheet.specs.Orders.{MarksOf}
 use Rattle.sheet.specs.Books.{formula, model_of}
 use Rattle.model.specs.declared.refusal.Refusal.TheVariants.{PathTooLong}
 use Rattle.sheet.specs.Causes.{Told, TooLong, CausePath, limit}
@@ -43,9 +43,9 @@ module _ (m : Model) (l : Told) (work waiting : ℕ) (before after : List Step) 
 
 module _ (sheet : Sheet) (l : Told) (W : Word → Type 0) (work waiting : ℕ) (before after : List Step) (guard goal s : ℕ) where
   -- a cause before the last stopped the call
-  pub witnessed_stopped : (e : Refusal) → CausePath (model_of sheet) l work waiting (length before) guard goal s none_good sheet.questions.count (Some (number e)) → after ≡ before → Witnessed sheet l W work waiting before after guard goal s (Err e)
+  pub witnessed_stopped : (e : Refusal) → CausePath (model_of sheet) l work waiting (length before) guard goal s none_good (length sheet.questions.items) (Some (number e)) → after ≡ before → Witnessed sheet l W work waiting before after guard goal s (Err e)
   witnessed_stopped e met same = record {
-    marks = record { cause = path_stop (model_of sheet) l work waiting (length before) guard goal s sheet.questions.count met; shows = same };
+    marks = record { cause = path_stop (model_of sheet) l work waiting (length before) guard goal s (length sheet.questions.items) met; shows = same };
     books = λ book st. record {
       cause = path_stop (model_of sheet) l work waiting (length before) guard goal s (length book) (subst (λ n. CausePath (model_of sheet) l work waiting (length before) guard goal s none_good n (Some (number e))) (sym st.long) met);
       shows = same;
@@ -53,9 +53,9 @@ module _ (sheet : Sheet) (l : Told) (W : Word → Type 0) (work waiting : ℕ) (
   }
 
   -- the search ran
-  pub witnessed_ran : (r : Result (Option ℕ) Refusal) → s < (model_of sheet).states → guard < sheet.questions.count → goal < sheet.questions.count
+  pub witnessed_ran : (r : Result (Option ℕ) Refusal) → s < (model_of sheet).states → guard < length sheet.questions.items → goal < length sheet.questions.items
       → ((w : Word) → W w → Derives l.rules 0 w) → ((w : Word) → Derives l.rules 0 w → W w)
-      → Answered (model_of sheet) l work waiting before after guard goal s (GoodByMarks sheet guard goal (Derives l.rules 0) s) sheet.questions.count r
+      → Answered (model_of sheet) l work waiting before after guard goal s (GoodByMarks sheet guard goal (Derives l.rules 0) s) (length sheet.questions.items) r
       → Witnessed sheet l W work waiting before after guard goal s r
   witnessed_ran r ls lg lh to from a =
       let m : Model = model_of sheet in
@@ -63,7 +63,7 @@ module _ (sheet : Sheet) (l : Told) (W : Word → Type 0) (work waiting : ℕ) (
       record {
         marks = answered_like m l work waiting before after guard goal s (GoodByMarks sheet guard goal D s) (GoodByMarks sheet guard goal W s)
             (good_map m _ _ _ _ D W s ls (λ t _ h. h) (λ t _ h. h) from)
-            (good_map m _ _ _ _ W D s ls (λ t _ h. h) (λ t _ h. h) to) sheet.questions.count r a;
+            (good_map m _ _ _ _ W D s ls (λ t _ h. h) (λ t _ h. h) to) (length sheet.questions.items) r a;
         books = λ book st. answered_like m l work waiting before after guard goal s (GoodByMarks sheet guard goal D s) (GoodByBook m book guard goal D s)
             (good_map m _ _ _ _ D D s ls (from_marks m (formula book guard) _ (st.right guard lg)) (from_marks m (formula book goal) _ (st.right goal lh)) (λ w d. d))
             (good_map m _ _ _ _ D D s ls (to_marks m (formula book guard) _ (st.right guard lg)) (to_marks m (formula book goal) _ (st.right goal lh)) (λ w d. d)) (length book) r
@@ -92,8 +92,8 @@ module _ (m : Model) (l : Told) (work waiting : ℕ) (before after : List Step) 
 
 -- the same, where the search was given the marks of guard and goal under other names
 module _ (sheet : Sheet) (l : Told) (W : Word → Type 0) (work waiting : ℕ) (before after : List Step) (guard goal s : ℕ) (a b : NumberSet)
-    (left : a ≡ (at sheet.questions guard).marks) (right : b ≡ (at sheet.questions goal).marks)
-    (free : CausePath (model_of sheet) l work waiting (length before) guard goal s none_good sheet.questions.count None)
+    (parts : MarksOf sheet.questions.items guard goal (a, b))
+    (free : CausePath (model_of sheet) l work waiting (length before) guard goal s none_good (length sheet.questions.items) None)
     (to : (w : Word) → W w → Derives l.rules 0 w) (from : (w : Word) → Derives l.rules 0 w → W w) where
   abbrev Searched : List Step → Type 0
   Searched p = Good (model_of sheet) (Has a) (Has b) (Derives l.rules 0) s p
@@ -102,26 +102,24 @@ module _ (sheet : Sheet) (l : Told) (W : Word → Type 0) (work waiting : ℕ) (
   Marked p = GoodByMarks sheet guard goal (Derives l.rules 0) s p
 
   by_marks : (p : List Step) → Searched p → Marked p
-  by_marks p g = subst (λ z. Good (model_of sheet) (Has (at sheet.questions guard).marks) (Has z) (Derives l.rules 0) s p) right
-      (subst (λ y. Good (model_of sheet) (Has y) (Has b) (Derives l.rules 0) s p) left g)
+  by_marks p g = subst (λ (y : NumberSet × NumberSet). Good (model_of sheet) (Has y.0) (Has y.1) (Derives l.rules 0) s p) parts g
 
   as_searched : (p : List Step) → Marked p → Searched p
-  as_searched p g = subst (λ y. Good (model_of sheet) (Has y) (Has b) (Derives l.rules 0) s p) (sym left)
-      (subst (λ z. Good (model_of sheet) (Has (at sheet.questions guard).marks) (Has z) (Derives l.rules 0) s p) (sym right) g)
+  as_searched p g = subst (λ (y : NumberSet × NumberSet). Good (model_of sheet) (Has y.0) (Has y.1) (Derives l.rules 0) s p) (sym parts) g
 
-  ran : (r : Result (Option ℕ) Refusal) → Answered (model_of sheet) l work waiting before after guard goal s Marked sheet.questions.count r → Witnessed sheet l W work waiting before after guard goal s r
+  ran : (r : Result (Option ℕ) Refusal) → Answered (model_of sheet) l work waiting before after guard goal s Marked (length sheet.questions.items) r → Witnessed sheet l W work waiting before after guard goal s r
   ran r answered =
-      let may = searchable (model_of sheet) l work waiting (length before) guard goal s sheet.questions.count free in
+      let may = searchable (model_of sheet) l work waiting (length before) guard goal s (length sheet.questions.items) free in
       witnessed_ran sheet l W work waiting before after guard goal s r may.state may.guarded may.aimed to from answered
 
   -- whatever the search shows
   pub witnessed_shown : (r : Result (Option ℕ) Refusal) → Found (model_of sheet) a b l.rules s (limit (length before)) before after r → Witnessed sheet l W work waiting before after guard goal s r
   witnessed_shown (Ok None) (none, same) =
-      ran (Ok None) (answered_none (model_of sheet) l work waiting before after guard goal s sheet.questions.count Marked free (λ g. none (g.0, as_searched g.0 g.1)) same)
+      ran (Ok None) (answered_none (model_of sheet) l work waiting before after guard goal s (length sheet.questions.items) Marked free (λ g. none (g.0, as_searched g.0 g.1)) same)
   witnessed_shown (Ok (Some k)) (fits, good, least, later, long) =
-      ran (Ok (Some k)) (answered_steps (model_of sheet) l work waiting before after guard goal s sheet.questions.count Marked free k fits (by_marks _ good) (λ p g. least p (as_searched p g)) later long)
+      ran (Ok (Some k)) (answered_steps (model_of sheet) l work waiting before after guard goal s (length sheet.questions.items) Marked free k fits (by_marks _ good) (λ p g. least p (as_searched p g)) later long)
   witnessed_shown (Err e) (is, some, longer, same) =
-      rw is (ran (Err PathTooLong) (answered_long (model_of sheet) l work waiting before after guard goal s sheet.questions.count Marked free (some.0, by_marks some.0 some.1) (λ p g. longer p (as_searched p g)) same))
+      rw is (ran (Err PathTooLong) (answered_long (model_of sheet) l work waiting before after guard goal s (length sheet.questions.items) Marked free (some.0, by_marks some.0 some.1) (λ p g. longer p (as_searched p g)) same))
 
 -- the search refuses with 24 alone
 pub shown_unless : (m : Model) (a b : NumberSet) (rules : List Rule) (s limit : ℕ) (before after : List Step) (r : Result (Option ℕ) Refusal) (Same : Type 0) → Found m a b rules s limit before after r → Unless24 r Same

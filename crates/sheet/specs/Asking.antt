@@ -15,7 +15,7 @@ use Rattle.sheet.specs.Books.{Book, formula, model_of, Marks, Stands}
 pub record Asks (old new : Sheet) (form : Form) (M : ℕ → Type 0) : Type 0 where
   pub marks : NumberSet
   pub exact : Exactly (Has marks) M
-  pub added : Added old.questions new.questions (record { form = form; marks = marks })
+  pub added : Added old.questions.items new.questions.items (record { form = form; marks = marks })
   pub model : model_of new ≡ model_of old
 
 -- the book that an asking call leaves: its formula at the end, unless it is refused
@@ -31,11 +31,11 @@ pub record Right (old new : Sheet) (Cause : ℕ → Option ℕ → Type 0) (f : 
 
 -- an asking call: its causes, its form, the states that it marks by its parts' marks, and its formula under a book
 pub record Asked (old new : Sheet) (Cause : ℕ → Option ℕ → Type 0) (form : Form) (M : ℕ → Type 0) (f : Book → Formula) (r : Result ℕ Refusal) : Type 0 where
-  pub cause : Cause old.questions.count (refusal r)
-  pub done : MatchResult r (λ n. (n ≡ old.questions.count) × Asks old new form M) (λ _. new ≡ old)
+  pub cause : Cause (length old.questions.items) (refusal r)
+  pub done : MatchResult r (λ n. (n ≡ length old.questions.items) × Asks old new form M) (λ _. new ≡ old)
   pub right : (book : Book) → Stands book old → Right old new Cause f r book
 
 -- an accepted marks call answers the marks of question q
 pub record MarksRead (sheet : Sheet) (q : ℕ) (x : NumberSet) : Type 0 where
-  pub value : x ≡ (at sheet.questions q).marks
+  pub value : x ≡ (at sheet.questions.items q).marks
   pub right : (book : Book) → Stands book sheet → (q < length book) × Marks (model_of sheet) (formula book q) x

@@ -35,6 +35,6 @@ Reads book (Release a b) f = (t : Table) × (f ≡ release (formula book a) (for
 
 -- as many questions as formulas; each has its formula's form, and marks exactly the states that satisfy it
 pub record Stands (book : Book) (sheet : Sheet) : Type 0 where
-  pub long : length book ≡ sheet.questions.count
-  pub right : (q : ℕ) → q < sheet.questions.count → Marks (model_of sheet) (formula book q) (at sheet.questions q).marks
-  pub shaped : (q : ℕ) → q < sheet.questions.count → Reads book (at sheet.questions q).form (formula book q)
+  pub long : length book ≡ length sheet.questions.items
+  pub right : (q : ℕ) → q < length sheet.questions.items → Marks (model_of sheet) (formula book q) (at sheet.questions.items q).marks
+  pub shaped : (q : ℕ) → q < length sheet.questions.items → Reads book (at sheet.questions.items q).form (formula book q)

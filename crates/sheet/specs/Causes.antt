@@ -19,6 +19,10 @@ CauseNot q n = Refuse (n ≤ q) 21 (Full n)
 abbrev pub CauseOr : ℕ → ℕ → ℕ → Option ℕ → Type 0
 CauseOr a b n = Refuse ((n ≤ a) ⊎ (n ≤ b)) 21 (Full n)
 
+-- two questions are read
+abbrev pub CausePair : ℕ → ℕ → ℕ → Option ℕ → Type 0
+CausePair a b n = Refuse ((n ≤ a) ⊎ (n ≤ b)) 21 Accept
+
 abbrev pub CauseMarks : ℕ → ℕ → Option ℕ → Type 0
 CauseMarks q n = Refuse (n ≤ q) 21 Accept
 

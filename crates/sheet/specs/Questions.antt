@@ -1,4 +1,4 @@
--- What stands at a place of the question table that is not in use.
+-- The question that stands where none is asked.
 use Rattle.model.specs.Sets.{nothing}
 use Rattle.sheet.specs.declared.question.Question.{Question}
 use Rattle.sheet.specs.declared.question.Form.TheVariants.{Proposition}

@@ -21,7 +21,7 @@ Shows Good before after (Some n) = (n ≤ length after) × Good (take n after) �
 
 -- the paths from s that are good by the marks of two questions and a set of words
 abbrev pub GoodByMarks : Sheet → ℕ → ℕ → (Word → Type 0) → ℕ → List Step → Type 0
-GoodByMarks sheet guard goal W s p = Good (model_of sheet) (Has (at sheet.questions guard).marks) (Has (at sheet.questions goal).marks) W s p
+GoodByMarks sheet guard goal W s p = Good (model_of sheet) (Has (at sheet.questions.items guard).marks) (Has (at sheet.questions.items goal).marks) W s p
 
 -- the paths from s that are good by the formulas of two questions and a set of words
 abbrev pub GoodByBook : Model → Book → ℕ → ℕ → (Word → Type 0) → ℕ → List Step → Type 0
@@ -34,7 +34,7 @@ pub record Answered (m : Model) (l : Told) (work waiting : ℕ) (before after : 
 
 -- a path call is right by the language's own words and the parts' marks, and by the whole formulas under every book
 pub record Witnessed (sheet : Sheet) (l : Told) (W : Word → Type 0) (work waiting : ℕ) (before after : List Step) (guard goal s : ℕ) (r : Result (Option ℕ) Refusal) : Type 0 where
-  pub marks : Answered (model_of sheet) l work waiting before after guard goal s (GoodByMarks sheet guard goal W s) sheet.questions.count r
+  pub marks : Answered (model_of sheet) l work waiting before after guard goal s (GoodByMarks sheet guard goal W s) (length sheet.questions.items) r
   pub books : (book : Book) → Stands book sheet → Answered (model_of sheet) l work waiting before after guard goal s (GoodByBook (model_of sheet) book guard goal (Derives l.rules 0) s) (length book) r
 
 -- a refusal other than 24 leaves as it was what Same speaks of

@@ -1,5 +1,5 @@
-// Questions, and the table that holds them.
-ghost use Rattle.std.specs.Prelude.{◌≡◌, ℕ, ◌+◌, ◌<◌, ◌≤◌, length, slice_index_or};
+// Questions.
+ghost use Rattle.std.specs.Prelude.{◌≡◌};
 ghost use Rattle.sheet.specs.Questions.{unasked};
 
 use model::NumberSet;
@@ -45,49 +45,11 @@ impl Question {
     }
 }
 
-// The first `count` questions are asked, numbered from 0.
-#[derive(Drop)]
-pub struct Questions {
-    items: [Question; 64],
-    count: usize,
-    ghost long: { length items ≡ 64 },
-    ghost room: { count ≤ 64 },
-}
+// What stands where no question is asked yet: proposition 0, without marks.
+impl Default for Question {
+    ghost is_default = { λ question. question ≡ unasked };
 
-impl Questions {
-    pub(crate) fn none() -> Questions
-        ensures { result.count ≡ 0 }
-    {
-        let unasked = Question {
-            form: Form::Proposition(0),
-            marks: NumberSet::empty(),
-        };
-        Questions {
-            items: [unasked; 64],
-            count: 0,
-        }
-    }
-
-    pub(crate) fn len(&self) -> usize
-        ensures { result ≡ self.now.count }
-    {
-        self.count
-    }
-
-    pub(crate) fn get(&self, q: usize) -> Question
-        requires { q < self.now.count }
-        ensures { result ≡ slice_index_or self.now.items q unasked }
-    {
-        self.items[q]
-    }
-
-    pub(crate) fn push(&mut self, question: Question)
-        requires { self.old.count < 64 }
-        ensures kept { (k : ℕ) → k < self.old.count → slice_index_or self.new.items k unasked ≡ slice_index_or self.old.items k unasked }
-        ensures last { slice_index_or self.new.items self.old.count unasked ≡ question }
-        ensures count { self.new.count ≡ self.old.count + 1 }
-    {
-        self.items[self.count] = question;
-        self.count += 1;
+    fn default() -> Question {
+        Question::new(Form::Proposition(0), NumberSet::empty())
     }
 }

@@ -1,16 +1,18 @@
 // A sheet: a model and the questions asked of it.
 ghost use Rattle.sheet.specs.Orders.{PartsLower, MarksWithin};
 
-use crate::question::Questions;
+use crate::question::Question;
+use arrayvec::ArrayVec;
 use model::Model;
 
-// Each question's parts have lower numbers than it has, and its marks are states of the model.
+// The questions are numbered from 0. Each one's parts have lower numbers than it has, and its marks are states of the
+// model.
 #[derive(Drop)]
 pub struct Sheet<'m> {
     model: &'m Model,
-    questions: Questions,
-    ghost lower: { PartsLower questions },
-    ghost within: { MarksWithin model.now.states questions },
+    questions: ArrayVec<Question, 64>,
+    ghost lower: { PartsLower questions.items },
+    ghost within: { MarksWithin model.now.states questions.items },
 }
 
 mod asking;

@@ -1,24 +1,26 @@
-// Which calls a sheet refuses, and why.
+// Which calls a sheet refuses, and why, and the marks that the other ones go by.
+ghost use Rattle.std.specs.Prelude.{◌≡◌, ℕ, ◌<◌, ◌≤◌, length, IfOk};
 ghost use Rattle.model.specs.Refusals.{refusal, Accept};
+ghost use Rattle.sheet.specs.Orders.{at, MarksOf};
 ghost use Rattle.sheet.specs.Books.{model_of};
-ghost use Rattle.sheet.specs.Causes.{Full, CauseProposition, CauseNot, CauseOr, CauseMarks, CauseUntil, CauseRelease, CausePath, Unfit, told};
+ghost use Rattle.sheet.specs.Causes.{Full, CauseProposition, CauseNot, CauseOr, CausePair, CauseUntil, CauseRelease, CausePath, Unfit, told};
 
 use crate::sheet::Sheet;
 use language::{UntilLanguage, Watcher};
-use model::Refusal;
+use model::{NumberSet, Refusal};
 
 impl Sheet<'_> {
     pub(crate) fn check_room(&self) -> Result<(), Refusal>
-        ensures { Full self.now.questions.count (refusal result) }
+        ensures { Full (length self.now.questions.items) (refusal result) }
     {
-        if self.questions.len() >= 64 {
+        if self.questions.is_full() {
             return Err(Refusal::SheetFull);
         }
         Ok(())
     }
 
     pub(crate) fn check_proposition(&self, p: u8) -> Result<(), Refusal>
-        ensures { CauseProposition p self.now.questions.count (refusal result) }
+        ensures { CauseProposition p (length self.now.questions.items) (refusal result) }
     {
         if p > 31 {
             return Err(Refusal::NoSuchProposition);
@@ -26,31 +28,32 @@ impl Sheet<'_> {
         self.check_room()
     }
 
-    pub(crate) fn check_marks(&self, q: usize) -> Result<(), Refusal>
-        ensures { CauseMarks q self.now.questions.count (refusal result) }
+    // The marks of question q, for a call that adds a question.
+    pub(crate) fn part(&self, q: usize) -> Result<NumberSet, Refusal>
+        ensures cause { CauseNot q (length self.now.questions.items) (refusal result) }
+        ensures marks { IfOk result (λ x. x ≡ (at self.now.questions.items q).marks) }
     {
-        if q >= self.questions.len() {
-            return Err(Refusal::NoSuchQuestion);
-        }
-        Ok(())
+        let question = self.question(q)?;
+        self.check_room()?;
+        Ok(question.marks())
     }
 
-    pub(crate) fn check_not(&self, q: usize) -> Result<(), Refusal>
-        ensures { CauseNot q self.now.questions.count (refusal result) }
+    // The marks of two questions.
+    pub(crate) fn pair(&self, left: usize, right: usize) -> Result<(NumberSet, NumberSet), Refusal>
+        ensures cause { CausePair left right (length self.now.questions.items) (refusal result) }
+        ensures marks { IfOk result (λ x. MarksOf self.now.questions.items left right x) }
     {
-        if q >= self.questions.len() {
-            return Err(Refusal::NoSuchQuestion);
-        }
-        self.check_room()
+        Ok((self.question(left)?.marks(), self.question(right)?.marks()))
     }
 
-    pub(crate) fn check_or(&self, left: usize, right: usize) -> Result<(), Refusal>
-        ensures { CauseOr left right self.now.questions.count (refusal result) }
+    // The marks of two questions, for a call that adds a question.
+    pub(crate) fn parts(&self, left: usize, right: usize) -> Result<(NumberSet, NumberSet), Refusal>
+        ensures cause { CauseOr left right (length self.now.questions.items) (refusal result) }
+        ensures marks { IfOk result (λ x. MarksOf self.now.questions.items left right x) }
     {
-        if left >= self.questions.len() || right >= self.questions.len() {
-            return Err(Refusal::NoSuchQuestion);
-        }
-        self.check_room()
+        let pair = self.pair(left, right)?;
+        self.check_room()?;
+        Ok(pair)
     }
 
     pub(crate) fn check_language<L: UntilLanguage>(
@@ -74,26 +77,28 @@ impl Sheet<'_> {
         Ok(())
     }
 
-    pub(crate) fn check_until<L: UntilLanguage>(
+    pub(crate) fn until_parts<L: UntilLanguage>(
         &self,
         guard: usize,
         goal: usize,
         language: &L,
         work: usize,
-    ) -> Result<(), Refusal>
-        ensures { CauseUntil (model_of self.now) (told (L.Alphabet.known language.now) (L.UntilLanguage.symbols language.now) (L.UntilLanguage.rules language.now)) work guard goal self.now.questions.count (refusal result) }
+    ) -> Result<(NumberSet, NumberSet), Refusal>
+        ensures cause { CauseUntil (model_of self.now) (told (L.Alphabet.known language.now) (L.UntilLanguage.symbols language.now) (L.UntilLanguage.rules language.now)) work guard goal (length self.now.questions.items) (refusal result) }
+        ensures marks { IfOk result (λ x. MarksOf self.now.questions.items guard goal x) }
     {
         self.check_language(language, work)?;
-        self.check_or(guard, goal)
+        self.parts(guard, goal)
     }
 
-    pub(crate) fn check_release<W: Watcher>(
+    pub(crate) fn release_parts<W: Watcher>(
         &self,
         freeing: usize,
         kept: usize,
         watcher: &W,
-    ) -> Result<(), Refusal>
-        ensures { CauseRelease (model_of self.now) (W.Alphabet.known watcher.now) (W.Watcher.table watcher.now) freeing kept self.now.questions.count (refusal result) }
+    ) -> Result<(NumberSet, NumberSet), Refusal>
+        ensures cause { CauseRelease (model_of self.now) (W.Alphabet.known watcher.now) (W.Watcher.table watcher.now) freeing kept (length self.now.questions.items) (refusal result) }
+        ensures marks { IfOk result (λ x. MarksOf self.now.questions.items freeing kept x) }
     {
         if watcher.action_count() != self.model.actions() {
             return Err(Refusal::OtherAlphabet);
@@ -101,11 +106,11 @@ impl Sheet<'_> {
         if watcher.state_count() > 32 {
             return Err(Refusal::TooLarge);
         }
-        self.check_or(freeing, kept)
+        self.parts(freeing, kept)
     }
 
     // All causes of a path call but the last, which only the search can tell.
-    pub(crate) fn check_path<L: UntilLanguage>(
+    pub(crate) fn path_parts<L: UntilLanguage>(
         &self,
         guard: usize,
         goal: usize,
@@ -114,8 +119,9 @@ impl Sheet<'_> {
         work: usize,
         waiting: usize,
         steps: usize,
-    ) -> Result<(), Refusal>
-        ensures { CausePath (model_of self.now) (told (L.Alphabet.known language.now) (L.UntilLanguage.symbols language.now) (L.UntilLanguage.rules language.now)) work waiting steps guard goal state (λ _. ⊥) self.now.questions.count (refusal result) }
+    ) -> Result<(NumberSet, NumberSet), Refusal>
+        ensures cause { CausePath (model_of self.now) (told (L.Alphabet.known language.now) (L.UntilLanguage.symbols language.now) (L.UntilLanguage.rules language.now)) work waiting steps guard goal state (λ _. ⊥) (length self.now.questions.items) (refusal result) }
+        ensures marks { IfOk result (λ x. MarksOf self.now.questions.items guard goal x) }
     {
         if state >= self.model.states() {
             return Err(Refusal::NoSuchState);
@@ -124,9 +130,6 @@ impl Sheet<'_> {
         if waiting < steps {
             return Err(Refusal::MemoryTooShort);
         }
-        if guard >= self.questions.len() || goal >= self.questions.len() {
-            return Err(Refusal::NoSuchQuestion);
-        }
-        Ok(())
+        self.pair(guard, goal)
     }
 }

@@ -26,7 +26,7 @@ impl Sheet<'_> {
         ensures answer { Witnessed self.now (told (L.Alphabet.known language.now) (L.UntilLanguage.symbols language.now) (L.UntilLanguage.rules language.now)) (L.UntilLanguage.words language.now) (length work.old) (length waiting.old) steps.old steps.new guard goal state result }
         ensures scratch { Unless24 result ((work.new ≡ work.old) × (waiting.new ≡ waiting.old)) }
     {
-        self.check_path(
+        let (holds, reached) = self.path_parts(
             guard,
             goal,
             language,
@@ -35,8 +35,6 @@ impl Sheet<'_> {
             waiting.len(),
             steps.len(),
         )?;
-        let holds = self.questions.get(guard).marks();
-        let reached = self.questions.get(goal).marks();
         let some = satisfying(language, self.model, holds, reached, work);
         shortest(
             language, self.model, holds, reached, some, state, work, waiting, steps,

@@ -6,8 +6,9 @@ ghost use Rattle.sheet.specs.Books.{Book, Stands, model_of};
 ghost use Rattle.sheet.specs.Causes.{CauseMarks};
 ghost use Rattle.sheet.specs.Asking.{MarksRead};
 
-use crate::question::{Question, Questions};
+use crate::question::Question;
 use crate::sheet::Sheet;
+use arrayvec::ArrayVec;
 use model::{Model, NumberSet, Refusal};
 
 impl<'m> Sheet<'m> {
@@ -18,13 +19,13 @@ impl<'m> Sheet<'m> {
     {
         Sheet {
             model,
-            questions: Questions::none(),
+            questions: ArrayVec::new(),
         }
     }
 
     // How many questions have been asked.
     pub fn len(&self) -> usize
-        ensures count { result ≡ self.now.questions.count }
+        ensures count { result ≡ length self.now.questions.items }
         ensures books { (book : Book) → Stands book self.now → result ≡ length book }
     {
         self.questions.len()
@@ -32,20 +33,21 @@ impl<'m> Sheet<'m> {
 
     // The record of question q.
     pub fn question(&self, q: usize) -> Result<Question, Refusal>
-        ensures cause { CauseMarks q self.now.questions.count (refusal result) }
-        ensures value { IfOk result (λ x. x ≡ at self.now.questions q) }
+        ensures cause { CauseMarks q (length self.now.questions.items) (refusal result) }
+        ensures value { IfOk result (λ x. x ≡ at self.now.questions.items q) }
     {
-        self.check_marks(q)?;
-        Ok(self.questions.get(q))
+        self.questions
+            .get(q)
+            .copied()
+            .ok_or(Refusal::NoSuchQuestion)
     }
 
     // The states that satisfy question q.
     pub fn marks(&self, q: usize) -> Result<NumberSet, Refusal>
-        ensures cause { CauseMarks q self.now.questions.count (refusal result) }
+        ensures cause { CauseMarks q (length self.now.questions.items) (refusal result) }
         ensures books { (book : Book) → Stands book self.now → CauseMarks q (length book) (refusal result) }
         ensures value { IfOk result (λ x. MarksRead self.now q x) }
     {
-        self.check_marks(q)?;
-        Ok(self.questions.get(q).marks())
+        Ok(self.question(q)?.marks())
     }
 }

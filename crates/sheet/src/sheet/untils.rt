@@ -25,12 +25,10 @@ impl Sheet<'_> {
         language: &L,
         work: &mut [u32],
     ) -> Result<usize, Refusal>
-        ensures asked { Asked self.old self.new (CauseUntil (model_of self.old) (told (L.Alphabet.known language.now) (L.UntilLanguage.symbols language.now) (L.UntilLanguage.rules language.now)) (length work.old) guard goal) (UntilForm guard goal) (λ s. (s < (model_of self.old).states) × SomeGood (model_of self.old) (Has (at self.old.questions guard).marks) (Has (at self.old.questions goal).marks) (L.UntilLanguage.words language.now) s) (λ book. until_of (formula book guard) (formula book goal) (L.UntilLanguage.rules language.now)) result }
+        ensures asked { Asked self.old self.new (CauseUntil (model_of self.old) (told (L.Alphabet.known language.now) (L.UntilLanguage.symbols language.now) (L.UntilLanguage.rules language.now)) (length work.old) guard goal) (UntilForm guard goal) (λ s. (s < (model_of self.old).states) × SomeGood (model_of self.old) (Has (at self.old.questions.items guard).marks) (Has (at self.old.questions.items goal).marks) (L.UntilLanguage.words language.now) s) (λ book. until_of (formula book guard) (formula book goal) (L.UntilLanguage.rules language.now)) result }
         ensures work { OnErr result (work.new ≡ work.old) }
     {
-        self.check_until(guard, goal, language, work.len())?;
-        let holds = self.questions.get(guard).marks();
-        let reached = self.questions.get(goal).marks();
+        let (holds, reached) = self.until_parts(guard, goal, language, work.len())?;
         let marks = satisfying(language, self.model, holds, reached, work);
         Ok(self.add(Form::Until(guard, goal), marks))
     }

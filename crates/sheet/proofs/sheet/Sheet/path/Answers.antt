@@ -1,4 +1,4 @@
-use Rattle.std.proofs.Common.{refl, ap, ◌∙◌, arith}
+use Rattle.std.proofs.Common.{refl, arith}
 use Rattle.std.proofs.lemmas.Result.{err_from_is_err_and}
 use Rattle.sheet.specs.Books.{model_of}
 use Rattle.sheet.specs.Causes.{Told, told}
@@ -6,14 +6,14 @@ use Rattle.sheet.proofs.Chains.{searchable}
 use Rattle.sheet.proofs.Witnessing.{witnessed_stopped, witnessed_shown, shown_unless}
 use Rattle.sheet.proofs.sheet.Sheet.path.Goals as goal
 
-pub returns-in_err-check_path : goal.returns-in_err-check_path
-returns-in_err-check_path g c =
+pub returns-in_err-holds : goal.returns-in_err-holds
+returns-in_err-holds g c =
     let p = err_from_is_err_and c.from_residual.result c.from_residual.ensures.1 in
-    rw (p.1, p.2) (record { answer = witnessed_stopped _ _ _ _ _ _ _ _ _ _ _ c.in_err-check_path.ensures refl; scratch = λ _. (refl, refl) })
+    rw (p.1, p.2) (record { answer = witnessed_stopped _ _ _ _ _ _ _ _ _ _ _ c.in_err-holds.ensures.cause refl; scratch = λ _. (refl, refl) })
 
 pub shortest-requires : goal.shortest-requires
 shortest-requires g c =
-    let free = c.in_ok-check_path.ensures in
+    let free = c.in_ok-holds.ensures.cause in
     let language = c.args.language.now in
     let tells : Told = told (g.L.Alphabet.known language) (g.L.UntilLanguage.symbols language) (g.L.UntilLanguage.rules language) in
     let may = searchable (model_of c.args.self.now) tells _ _ _ _ _ _ _ free in
@@ -25,13 +25,13 @@ shortest-requires g c =
 
 pub returns : goal.returns
 returns g c =
-    let free = c.in_ok-check_path.ensures in
+    let free = c.in_ok-holds.ensures.cause in
     let language = c.args.language.now in
     let tells : Told = told (g.L.Alphabet.known language) (g.L.UntilLanguage.symbols language) (g.L.UntilLanguage.rules language) in
     let may = searchable (model_of c.args.self.now) tells _ _ _ _ _ _ _ free in
     let laws = g.met.L.UntilLanguage in
     record {
-      answer = witnessed_shown _ tells _ _ _ _ _ _ _ _ _ _ (c.marks-holds.ensures ∙ ap (λ y. y.marks) c.get.ensures) (c.marks-reached.ensures ∙ ap (λ y. y.marks) c.get-2.ensures) free
+      answer = witnessed_shown _ tells _ _ _ _ _ _ _ _ _ _ c.in_ok-holds.ensures.marks free
           (λ w. laws.derived language w may.symbols may.rules) (λ w. laws.only_derived language w may.symbols may.rules) c.shortest.result c.shortest.ensures;
       scratch = shown_unless _ _ _ _ _ _ _ _ c.shortest.result _ c.shortest.ensures;
     }
