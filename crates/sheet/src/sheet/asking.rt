@@ -1,5 +1,5 @@
 // The calls that ask a question.
-ghost use Rattle.std.specs.Prelude.{◌≡◌, ℕ, ◌<◌, ◌≤◌, ◌⊎◌, length};
+ghost use Rattle.std.specs.Prelude.{◌≡◌, ℕ, ◌<◌, ◌⊎◌, length};
 ghost use Rattle.model.specs.Models.{Labelled as LabelledAt};
 ghost use Rattle.model.specs.Sets.{Has};
 ghost use Rattle.logic.specs.Formulas.{proposition as prop, neg, or as either};

@@ -1,5 +1,5 @@
 // Which calls a sheet refuses, and why, and the marks that the other ones go by.
-ghost use Rattle.std.specs.Prelude.{◌≡◌, ℕ, ◌<◌, ◌≤◌, length, IfOk};
+ghost use Rattle.std.specs.Prelude.{◌≡◌, length, IfOk};
 ghost use Rattle.model.specs.Refusals.{refusal, Accept};
 ghost use Rattle.sheet.specs.Orders.{at, MarksOf};
 ghost use Rattle.sheet.specs.Books.{model_of};

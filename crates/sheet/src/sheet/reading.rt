@@ -1,5 +1,5 @@
 // What a sheet tells.
-ghost use Rattle.std.specs.Prelude.{◌≡◌, ℕ, ◌<◌, ◌≤◌, [], length, IfOk};
+ghost use Rattle.std.specs.Prelude.{◌≡◌, [], length, IfOk};
 ghost use Rattle.model.specs.Refusals.{refusal};
 ghost use Rattle.sheet.specs.Orders.{at};
 ghost use Rattle.sheet.specs.Books.{Book, Stands, model_of};

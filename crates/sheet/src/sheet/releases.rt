@@ -1,5 +1,5 @@
 // The release question, over any watcher.
-ghost use Rattle.std.specs.Prelude.{◌≡◌, ℕ, ◌<◌, ◌≤◌};
+ghost use Rattle.std.specs.Prelude.{◌<◌};
 ghost use Rattle.model.specs.Sets.{Has};
 ghost use Rattle.logic.specs.Formulas.{release as release_of};
 ghost use Rattle.logic.specs.Maximal.{SomeKeeps};

@@ -1,5 +1,5 @@
 // The until question, over any until language.
-ghost use Rattle.std.specs.Prelude.{◌≡◌, ℕ, ◌<◌, ◌≤◌, length, OnErr};
+ghost use Rattle.std.specs.Prelude.{◌≡◌, ◌<◌, length, OnErr};
 ghost use Rattle.model.specs.Sets.{Has};
 ghost use Rattle.logic.specs.Formulas.{until as until_of};
 ghost use Rattle.logic.specs.Paths.{SomeGood};
