@@ -1,5 +1,5 @@
 -- Pairs that are found and laid on the pile.
-use Rattle.std.proofs.Common.{◌≡◌, ℕ, suc, ◌*◌, ◌^◌, ◌<◌, ◌≤◌, ◌⊎◌, List, [], ◌∷◌, ◌++◌, length, get_or, set, Ok, Err, Result, sym, refl, ap, ◌∙◌, subst, inl, inr, ⊎_elim, mul_comm, arith, length-append, MatchResult}
+use Rattle.std.proofs.Common.{◌≡◌, ℕ, suc, ◌*◌, ◌^◌, ◌<◌, ◌≤◌, ◌⊎◌, List, [], ◌∷◌, ◌++◌, length, get_or, set, Ok, Err, Result, sym, refl, ap, ◌∙◌, subst, inl, inr, ⊎_elim, mul_comm, arith, length-append, MatchResult, MatchOption, IsNone, IfSome, Some, None, Option}
 use native.Mathlib.Decide.{dec_lt, ℕ_discrete}
 use lib.Bits.{bit_or}
 use Rattle.model.specs.declared.refusal.Refusal.{Refusal}
@@ -77,6 +77,13 @@ module _ (m : Model) (Q : ℕ) where
       let few = found_few (set rows x.1 row) (λ p h. ⊎_elim (r.inside p) (λ e. subst (λ z. (z.0 < m.states) × (z.1 < Q)) (sym e) (a, b)) (j.only p h)) in
       omega (arith, r.few, r.space)
 
+  -- a pair that is not found yet is found and laid on the pile
+  pub laid_pushed : {rows more : List NumberSet} {pile higher : Pile Position} (x : Position) (r : Result (Unit {0}) Refusal) → length rows ≡ 32 → Q ≤ 32 → Roomy m Q rows pile → (x.state < m.states) × (x.watch < Q) → (Holds rows (pair x) → ⊥)
+      → Joined (Holds rows) (Holds more) (λ p. p ≡ pair x) → Refuse (room pile ≤ length (items pile)) 23 Accept (refusal r) → MatchResult r (λ _. items higher ≡ items pile ++ x ∷ []) (λ _. higher ≡ pile) → room higher ≡ room pile
+      → Laid rows pile more higher (λ p. p ≡ pair x)
+  laid_pushed {pile = pile} {higher} x r long small roomy inside new j cause done same =
+      laid_one x (omega (arith, inside.1)) new j (push_sure (items higher ≡ items pile ++ x ∷ []) (higher ≡ pile) r cause (room_new long small roomy (pair x) inside.0 inside.1 new) done) same
+
 module _ (m : Model) (t : Table) where
   module _ (F K : ℕ → Type 0) (small : t.states ≤ 32) (rows more : List NumberSet) (D : ℕ × ℕ → Type 0) (j : Joined (Holds rows) (Holds more) D) where
     -- pairs that are bad, or forced into what is found, keep the rows sound
@@ -124,3 +131,24 @@ taken_more watch all rest fewer n j gone sub l m = laid_like to from (laid_both 
         go : Dec (p.0 ≡ n) → Taken watch all rest p ⊎ (p ≡ (n, watch))
         go (yes d) = inr (pair_is p n watch d e)
         go (no d) = inl (e, h, λ r. ⊎_elim k d (j.only p.0 r))
+
+-- the top of the pile is taken off
+module _ (m : Model) (Q : ℕ) (rows : List NumberSet) (pile lower : Pile Position) where
+  roomy_less : (x : Position) → items pile ≡ items lower ++ x ∷ [] → room lower ≡ room pile → Roomy m Q rows pile → Roomy m Q rows lower
+  roomy_less x e same r = record {
+    inside = r.inside;
+    waits = λ p o. r.waits p (subst (λ xs. On xs p) (sym e) ((on_more (items lower) x).keeps p o));
+    few = omega (arith, r.few, ap length e, length-append (items lower) (x ∷ []));
+    space = omega (arith, r.space, same);
+  }
+
+  top_inside : (x : Position) → items pile ≡ items lower ++ x ∷ [] → Roomy m Q rows pile → (x.state < m.states) × (x.watch < Q)
+  top_inside x e r = r.inside (pair x) (r.waits (pair x) (subst (λ xs. On xs (pair x)) (sym e) ((on_more (items lower) x).puts (pair x) refl)))
+
+  pub roomy_popped : (r : Option Position) → MatchOption r (items pile ≡ []) (λ top. items pile ≡ items lower ++ top ∷ []) → (IsNone r → lower ≡ pile) → room lower ≡ room pile → Roomy m Q rows pile → Roomy m Q rows lower
+  roomy_popped None e same kept roomy = subst (Roomy m Q rows) (sym (same refl)) roomy
+  roomy_popped (Some x) e same kept roomy = roomy_less x e kept roomy
+
+  pub popped_inside : (r : Option Position) → MatchOption r (items pile ≡ []) (λ top. items pile ≡ items lower ++ top ∷ []) → Roomy m Q rows pile → IfSome r (λ x. (x.state < m.states) × (x.watch < Q))
+  popped_inside None e roomy = tt
+  popped_inside (Some x) e roomy = top_inside x e roomy

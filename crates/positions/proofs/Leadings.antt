@@ -10,16 +10,13 @@ use Rattle.model.proofs.Bits.{none_has}
 use Rattle.language.specs.Tables.{Table, step}
 use Rattle.logic.specs.Paths.{edge}
 use Rattle.walks.proofs.Walks.{edge_inside}
+use Rattle.charts.proofs.Sure.{sure}
 use Rattle.positions.specs.Pairs.{Holds}
 use Rattle.charts.specs.declared.charts.Charts.{Charts}
 use Rattle.charts.specs.Arrows.{Shows, Into, Out, Back, Charted}
 use Rattle.positions.specs.Searches.{Led, LedBy, Noted, place}
 use Rattle.positions.proofs.Sizes.{holds_dec, empty_exact}
 use Rattle.positions.proofs.Marks.{pair_is}
-
-pub sure : {P : Type 0} → Dec P → ((P → ⊥) → ⊥) → P
-sure (yes p) nn = p
-sure (no n) nn = absurd (nn n)
 
 -- the test by sets
 pub led_exact : (m : Model) (t : Table) (rows : List NumberSet) (p : ℕ × ℕ) (a n : ℕ) (ends row left : NumberSet) → n ≡ step t p.1 a → Exactly (Has ends) (λ u. Out m (a, p.0, u)) → row ≡ get_or rows n nothing

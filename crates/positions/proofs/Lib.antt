@@ -3,3 +3,5 @@ pub mod Marks
 pub mod Findings
 pub mod Lookings
 pub mod Leadings
+pub mod Turns
+pub mod Beginnings

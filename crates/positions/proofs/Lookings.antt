@@ -10,21 +10,20 @@ use Rattle.pile.specs.declared.base.Pile.{Pile}
 use Rattle.walks.specs.Releases.{Forced}
 use Rattle.positions.specs.declared.position.Position.{Position}
 use Rattle.positions.specs.Pairs.{Holds}
-use Rattle.positions.specs.Searches.{Done, Roomy, Laid, Looked, Led, Leaves}
-use Rattle.positions.proofs.Findings.{roomy_laid, sound_add}
+use Rattle.positions.specs.Searches.{Done, Laid, Looked, Led, Leaves}
+use Rattle.positions.proofs.Findings.{sound_add}
 
 module _ (m : Model) (t : Table) (F : ℕ → Type 0) where
   -- nothing is found
-  pub looked_same : {rows : List NumberSet} {pile : Pile Position} {V : ℕ × ℕ → Type 0} → Roomy m t.states rows pile → ((p : ℕ × ℕ) → V p → Forced m t F (Done rows pile) p.0 p.1 → Holds rows p) → Looked m t F V rows pile rows pile
-  looked_same r here = record { keeps = λ p h. h; done = λ s q d. d; roomy = r; fits = omega arith; room = refl; sound = λ k s. s; looked = here }
+  pub looked_same : {rows : List NumberSet} {pile : Pile Position} {V : ℕ × ℕ → Type 0} → ((p : ℕ × ℕ) → V p → Forced m t F (Done rows pile) p.0 p.1 → Holds rows p) → Looked m t F V rows pile rows pile
+  looked_same here = record { keeps = λ p h. h; done = λ s q d. d; fits = omega arith; room = refl; sound = λ k s. s; looked = here }
 
   -- forced pairs are found
-  pub looked_laid : {rows more : List NumberSet} {pile higher : Pile Position} {D : ℕ × ℕ → Type 0} → t.states ≤ 32 → Roomy m t.states rows pile
+  pub looked_laid : {rows more : List NumberSet} {pile higher : Pile Position} {D : ℕ × ℕ → Type 0} → t.states ≤ 32
       → ((p : ℕ × ℕ) → D p → (p.0 < m.states) × (p.1 < t.states) × Forced m t F (λ u r. Holds rows (u, r)) p.0 p.1) → Laid rows pile more higher D → Looked m t F D rows pile more higher
-  looked_laid {rows} {more} {pile} {higher} {D} small r new l = record {
+  looked_laid {rows} {more} {pile} {higher} {D} small new l = record {
     keeps = l.found.keeps;
     done = λ s q d. (⊎_elim (λ o. o) (λ n. absurd (d.1 (l.laid.puts (s, q) n))) (l.found.only (s, q) d.0), λ o. d.1 (l.laid.keeps (s, q) o));
-    roomy = roomy_laid m t.states (λ p d. let (a, b, f) = new p d in (a, b)) r l;
     fits = l.fits;
     room = l.room;
     sound = λ k s. sound_add m t F (Has k) small rows more D l.found (λ p d. let (a, b, f) = new p d in (a, b, inr f)) s;
@@ -36,7 +35,6 @@ module _ (m : Model) (t : Table) (F : ℕ → Type 0) where
   looked_both {b = b} {c} {y = y} {z} {V} {U} l n = record {
     keeps = λ p h. n.keeps p (l.keeps p h);
     done = λ s q d. l.done s q (n.done s q d);
-    roomy = n.roomy;
     fits = omega (arith, l.fits, n.fits);
     room = n.room ∙ l.room;
     sound = λ k s. n.sound k (l.sound k s);
@@ -45,7 +43,7 @@ module _ (m : Model) (t : Table) (F : ℕ → Type 0) where
 
   -- fewer pairs, or the same in other words
   pub looked_like : {a b : List NumberSet} {x y : Pile Position} {V U : ℕ × ℕ → Type 0} → ((p : ℕ × ℕ) → U p → V p) → Looked m t F V a x b y → Looked m t F U a x b y
-  looked_like to l = record { keeps = l.keeps; done = l.done; roomy = l.roomy; fits = l.fits; room = l.room; sound = l.sound; looked = λ p u f. l.looked p (to p u) f }
+  looked_like to l = record { keeps = l.keeps; done = l.done; fits = l.fits; room = l.room; sound = l.sound; looked = λ p u f. l.looked p (to p u) f }
 
   -- the pairs of one step after another
   pub looked_more : {a b c : List NumberSet} {x y z : Pile Position} (V : ℕ → ℕ × ℕ → Type 0) (i : ℕ) → Looked m t F (Upto V i) a x b y → Looked m t F (V i) b y c z → Looked m t F (Upto V (i + 1)) a x c z
@@ -66,16 +64,16 @@ module _ (m : Model) (t : Table) (F : ℕ → Type 0) where
 
   -- the four ways in which one pair is looked at
   module _ (x : ℕ × ℕ) where
-    pub looked_freed : {rows : List NumberSet} {pile : Pile Position} → Roomy m t.states rows pile → F x.0 → Looked m t F (λ p. p ≡ x) rows pile rows pile
-    looked_freed r f = looked_same r (λ p e d. absurd (d.0 (subst (λ z. F z.0) (sym e) f)))
+    pub looked_freed : {rows : List NumberSet} {pile : Pile Position} → F x.0 → Looked m t F (λ p. p ≡ x) rows pile rows pile
+    looked_freed f = looked_same (λ p e d. absurd (d.0 (subst (λ z. F z.0) (sym e) f)))
 
-    pub looked_found : {rows : List NumberSet} {pile : Pile Position} → Roomy m t.states rows pile → Holds rows x → Looked m t F (λ p. p ≡ x) rows pile rows pile
-    looked_found {rows} r h = looked_same r (λ p e d. subst (Holds rows) (sym e) h)
+    pub looked_found : {rows : List NumberSet} {pile : Pile Position} → Holds rows x → Looked m t F (λ p. p ≡ x) rows pile rows pile
+    looked_found {rows} h = looked_same (λ p e d. subst (Holds rows) (sym e) h)
 
-    pub looked_unled : {rows : List NumberSet} {pile : Pile Position} → Roomy m t.states rows pile → (Led m t rows x → ⊥) → Looked m t F (λ p. p ≡ x) rows pile rows pile
-    looked_unled {rows} r un = looked_same r (λ p e d. absurd (un (subst (Led m t rows) e (λ y h. (d.2 y h).0))))
+    pub looked_unled : {rows : List NumberSet} {pile : Pile Position} → (Led m t rows x → ⊥) → Looked m t F (λ p. p ≡ x) rows pile rows pile
+    looked_unled {rows} un = looked_same (λ p e d. absurd (un (subst (Led m t rows) e (λ y h. (d.2 y h).0))))
 
-    pub looked_led : {rows more : List NumberSet} {pile higher : Pile Position} → Roomy m t.states rows pile → t.states ≤ 32 → x.0 < m.states → x.1 < t.states → (F x.0 → ⊥) → Leaves m x.0 → Led m t rows x
+    pub looked_led : {rows more : List NumberSet} {pile higher : Pile Position} → t.states ≤ 32 → x.0 < m.states → x.1 < t.states → (F x.0 → ⊥) → Leaves m x.0 → Led m t rows x
         → Laid rows pile more higher (λ p. p ≡ x) → Looked m t F (λ p. p ≡ x) rows pile more higher
-    looked_led {rows} r small a b nf out led l =
-        looked_laid small r (λ p e. subst (λ z. (z.0 < m.states) × (z.1 < t.states) × Forced m t F (λ u r. Holds rows (u, r)) z.0 z.1) (sym e) (a, b, (nf, out, led))) l
+    looked_led {rows} small a b nf out led l =
+        looked_laid small (λ p e. subst (λ z. (z.0 < m.states) × (z.1 < t.states) × Forced m t F (λ u r. Holds rows (u, r)) z.0 z.1) (sym e) (a, b, (nf, out, led))) l

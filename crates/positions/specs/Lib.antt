@@ -1,2 +1,4 @@
+pub mod Beginnings
+pub mod Looking
 pub mod Pairs
 pub mod Searches

@@ -70,7 +70,6 @@ pub record Laid (rows : List NumberSet) (pile : Pile Position) (more : List Numb
 pub record Looked (m : Model) (t : Table) (F : ℕ → Type 0) (V : ℕ × ℕ → Type 0) (rows : List NumberSet) (pile : Pile Position) (more : List NumberSet) (higher : Pile Position) : Type 0 where
   pub keeps : (p : ℕ × ℕ) → Holds rows p → Holds more p
   pub done : (s q : ℕ) → Done more higher s q → Done rows pile s q
-  pub roomy : Roomy m t.states more higher
   pub fits : length (items higher) + size rows 32 ≤ length (items pile) + size more 32
   pub room : room higher ≡ room pile
   pub sound : (k : NumberSet) → Sound m t F (Has k) rows → Sound m t F (Has k) more

@@ -5,9 +5,11 @@
 mod position;
 mod positions;
 mod progress;
-mod visits;
+mod search;
+mod setting;
 
 pub use position::Position;
 pub use positions::Positions;
 pub use progress::Progress;
-pub use visits::{doom, expand};
+pub use search::Search;
+pub use setting::Setting;

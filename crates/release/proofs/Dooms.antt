@@ -1,5 +1,5 @@
 -- The search from its first pairs to its end.
-use Rattle.std.proofs.Common.{◌≡◌, ℕ, ◌+◌, ◌-◌, ◌*◌, ◌<◌, ◌≤◌, true, ◌⊎◌, List, [], ◌∷◌, ◌++◌, length, sym, refl, ap, subst, inl, inr, ⊎_elim, arith, length-append}
+use Rattle.std.proofs.Common.{◌≡◌, ℕ, ◌+◌, ◌-◌, ◌*◌, ◌<◌, ◌≤◌, ◌⊎◌, List, [], ◌∷◌, ◌++◌, length, sym, ap, subst, inl, inr, ⊎_elim, arith, length-append}
 use native.Mathlib.Decide.{ℕ_discrete}
 use Rattle.std.proofs.lemmas.Nat.{mul-le}
 use Rattle.model.specs.declared.edge.Step.{Step}
@@ -9,56 +9,29 @@ use Rattle.model.specs.Relations.{Exactly, Upto}
 use Rattle.model.specs.Models.{HasEdge, edges_of}
 use Rattle.model.specs.Sets.{Has}
 use Rattle.model.proofs.Bits.{bit_none}
+use Rattle.language.specs.declared.alphabet.Alphabet.{Ghosts as Alphabets}
+use Rattle.language.specs.declared.watcher.Watcher.{Ghosts as Watchers}
 use Rattle.language.specs.Words.{Word}
 use Rattle.language.specs.Tables.{Table, step, Accepts, Complete}
 use Rattle.logic.specs.Paths.{edge}
 use Rattle.pile.specs.declared.base.Pile.{Pile}
-use Rattle.pile.specs.Items.{items, room}
+use Rattle.pile.specs.Items.{items}
 use Rattle.walks.specs.Releases.{Forced, Bad}
 use Rattle.walks.proofs.Breaks.{doomed_breaks, breaks_not_keeps}
 use Rattle.walks.proofs.Walks.{seek, edge_inside, kept_outside}
 use Rattle.positions.specs.declared.position.Position.{Position}
-use Rattle.positions.specs.Pairs.{pair, Holds, InRow, size}
-use Rattle.positions.specs.Searches.{On, Done, Sound, Roomy, Laid, Looked, Ready, BackBy}
-use Rattle.release.specs.Beginnings.{BadBelow, Begun}
+use Rattle.positions.specs.declared.positions.Positions.{Positions}
+use Rattle.positions.specs.declared.search.Search.{Search}
+use Rattle.positions.specs.declared.setting.Setting.{Setting}
+use Rattle.positions.specs.Looking.{table_of, Looks}
+use Rattle.positions.specs.Pairs.{pair, Holds, size}
+use Rattle.positions.specs.Searches.{On, Done, Sound, Roomy, Looked, Ready, BackBy}
+use Rattle.positions.specs.Beginnings.{BadBelow}
 use Rattle.release.specs.Releases.{Doomed, Released}
 use Rattle.positions.proofs.Sizes.{holds_dec, has_dec}
 use Rattle.positions.proofs.Marks.{pair_is}
-use Rattle.positions.proofs.Leadings.{sure}
-use Rattle.positions.proofs.Findings.{on_more, found_few, roomy_laid, sound_add}
-
--- the first pairs, one watcher state after another
-module _ (m : Model) (t : Table) (unkept : ℕ → Type 0) where
-  pub begun_none : {rows : List NumberSet} {pile : Pile Position} → items pile ≡ [] → m.states * t.states ≤ room pile → ((p : ℕ × ℕ) → Holds rows p → ⊥) → Begun m t unkept 0 rows pile
-  begun_none {rows} {pile} e space none = record {
-    bad = λ p. (λ h. absurd (none p h), λ b. absurd (omega (arith, b.0)));
-    all = λ p h. absurd (none p h);
-    roomy = record { inside = λ p h. absurd (none p h); waits = λ p o. absurd (subst (λ xs. On xs p) e o); few = omega (arith, ap length e); space = space };
-  }
-
-  pub begun_not : {w : ℕ} {rows : List NumberSet} {pile : Pile Position} → (t.marked w ≡ true → ⊥) → Begun m t unkept w rows pile → Begun m t unkept (w + 1) rows pile
-  begun_not {w} {rows} un b = record { bad = λ p. (λ h. let x = (b.bad p).0 h in (omega (arith, x.0), x.1, x.2), λ x. (b.bad p).1 (go p x (ℕ_discrete p.1 w), x.1, x.2)); all = b.all; roomy = b.roomy }
-    where
-      go : (p : ℕ × ℕ) → BadBelow t (w + 1) unkept p → Dec (p.1 ≡ w) → p.1 < w
-      go p x (yes e) = absurd (un (subst (λ q. t.marked q ≡ true) e x.1))
-      go p x (no ne) = omega (arith, x.0)
-
-  pub begun_here : {w : ℕ} {rows more : List NumberSet} {pile higher : Pile Position} → t.marked w ≡ true → w < t.states → ((s : ℕ) → unkept s → s < m.states) → Begun m t unkept w rows pile → Laid rows pile more higher (InRow w unkept) → Begun m t unkept (w + 1) more higher
-  begun_here {w} {rows} {more} mk lt small b l = record {
-    bad = λ p. (λ h. ⊎_elim (old p) (new p) (l.found.only p h), λ x. go p x (ℕ_discrete p.1 w));
-    all = λ p h. ⊎_elim (λ o. l.laid.keeps p (b.all p o)) (l.laid.puts p) (l.found.only p h);
-    roomy = roomy_laid m t.states (λ p i. (small p.0 i.1, omega (arith, i.0))) b.roomy l;
-  }
-    where
-      old : (p : ℕ × ℕ) → Holds rows p → BadBelow t (w + 1) unkept p
-      old p h = let x = (b.bad p).0 h in (omega (arith, x.0), x.1, x.2)
-
-      new : (p : ℕ × ℕ) → InRow w unkept p → BadBelow t (w + 1) unkept p
-      new p i = (omega (arith, i.0), subst (λ q. t.marked q ≡ true) (sym i.0) mk, i.1)
-
-      go : (p : ℕ × ℕ) → BadBelow t (w + 1) unkept p → Dec (p.1 ≡ w) → Holds more p
-      go p x (yes e) = l.found.puts p (e, x.2)
-      go p x (no ne) = l.found.keeps p ((b.bad p).1 (omega (arith, x.0), x.1, x.2))
+use Rattle.charts.proofs.Sure.{sure}
+use Rattle.positions.proofs.Findings.{on_more, found_few, sound_add}
 
 module _ (m : Model) (t : Table) (F : ℕ → Type 0) where
   -- everything that is found waits
@@ -67,17 +40,6 @@ module _ (m : Model) (t : Table) (F : ℕ → Type 0) where
 
   -- the top of the pile is taken off
   module _ (rows : List NumberSet) (pile lower : Pile Position) (x : Position) (e : items pile ≡ items lower ++ x ∷ []) where
-    pub roomy_pop : room lower ≡ room pile → Roomy m t.states rows pile → Roomy m t.states rows lower
-    roomy_pop same r = record {
-      inside = r.inside;
-      waits = λ p o. r.waits p (subst (λ xs. On xs p) (sym e) ((on_more (items lower) x).keeps p o));
-      few = omega (arith, r.few, ap length e, length-append (items lower) (x ∷ []));
-      space = omega (arith, r.space, same);
-    }
-
-    pub top_inside : Roomy m t.states rows pile → (x.state < m.states) × (x.watch < t.states)
-    top_inside r = r.inside (pair x) (r.waits (pair x) (subst (λ xs. On xs (pair x)) (sym e) ((on_more (items lower) x).puts (pair x) refl)))
-
     pub ready_pop : Ready m t F rows pile → (s q : ℕ) → q < t.states → Forced m t F (Done rows lower) s q → Holds rows (s, q) ⊎ Upto (BackBy m t (pair x)) m.actions (s, q)
     ready_pop ready s q b f = go f (seek s (λ y. pair x ≡ (y.state, step t q y.action)) (λ y. same (ℕ_discrete x.state y.state) (ℕ_discrete x.watch (step t q y.action))) (edges_of m))
       where
@@ -97,9 +59,9 @@ module _ (m : Model) (t : Table) (F : ℕ → Type 0) where
     ready_looked ready l s q b f = ⊎_elim (l.keeps (s, q)) (λ u. l.looked (s, q) u f) (ready_pop ready s q b (f.0, f.1, λ y h. l.done _ _ (f.2 y h)))
 
     -- each turn leaves less to do
-    pub turn_less : {more : List NumberSet} {higher : Pile Position} → t.states ≤ 32 → Looked m t F (Upto (BackBy m t (pair x)) m.actions) rows lower more higher → (1024 - size more 32) + length (items higher) < (1024 - size rows 32) + length (items pile)
-    turn_less {more} small l =
-        let few = found_few m t.states more l.roomy.inside in
+    pub turn_less : {more : List NumberSet} {higher : Pile Position} → t.states ≤ 32 → Roomy m t.states more higher → Looked m t F (Upto (BackBy m t (pair x)) m.actions) rows lower more higher → (1024 - size more 32) + length (items higher) < (1024 - size rows 32) + length (items pile)
+    turn_less {more} small roomy l =
+        let few = found_few m t.states more roomy.inside in
         let most = mul-le m.states t.states 32 32 m.few_states small in
         omega (arith, l.fits, ap length e, length-append (items lower) (x ∷ []))
 
@@ -148,3 +110,17 @@ released_words m F K W U n set to from r = record {
   exact = λ s. (λ h. let (a, (π, keeps)) = (r.exact s).0 h in (a, (π, λ i o u. keeps i o (from _ u))), λ h. let (a, (π, keeps)) = h in (r.exact s).1 (a, (π, λ i o w. keeps i o (to _ w))));
   breaks = λ s a un π. let (k, l, (o, w, nk, nf)) = r.breaks s a un π in (k, l, (o, to _ w, nk, nf));
 }
+
+module _ {W : Type 0} {w : Watchers W} {a : Alphabets W} where
+  -- one turn of a search, told by an equal setting: the top is taken off the pile, and the pairs that lead to it are looked at
+  pub turn : (s : Setting W w a) (x lower y : Search W w a) (top : Position) → lower.setting ≡ s → lower.found ≡ x.found → Looks (Upto (BackBy lower.setting.model.now (table_of lower.setting) (pair top)) lower.setting.model.now.actions) lower y
+      → Looked s.model.now (table_of s) (Has s.freeing) (Upto (BackBy s.model.now (table_of s) (pair top)) s.model.now.actions) x.found.rows lower.pile y.found.rows y.pile
+  turn s x lower y top same found looks =
+      let T : Setting W w a → Positions → Type 0 = λ k f. Looked k.model.now (table_of k) (Has k.freeing) (Upto (BackBy k.model.now (table_of k) (pair top)) k.model.now.actions) f.rows lower.pile y.found.rows y.pile in
+      subst (λ k. T k x.found) same (subst (T lower.setting) found looks.looked)
+
+  -- what a search says of its setting it says of what the setting was made of
+  pub doomed_by : (s : Setting W w a) (watcher : W) (m : Model) (freeing : NumberSet) (K : ℕ → Type 0) (rows : List NumberSet) → s.watcher.now ≡ watcher → s.model.now ≡ m → s.freeing ≡ freeing
+      → Doomed s.model.now (table_of s) (Has s.freeing) K rows → Doomed m (w.table watcher) (Has freeing) K rows
+  doomed_by s watcher m freeing K rows e f h d =
+      subst (λ x. Doomed m (w.table x) (Has freeing) K rows) e (subst (λ x. Doomed x (table_of s) (Has freeing) K rows) f (subst (λ x. Doomed s.model.now (table_of s) (Has x) K rows) h d))

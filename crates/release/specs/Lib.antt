@@ -1,2 +1,1 @@
-pub mod Beginnings
 pub mod Releases

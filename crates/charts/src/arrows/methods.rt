@@ -18,7 +18,8 @@ impl Arrows {
 
     // The other states of the action and the state.
     pub fn row(&self, action: u8, state: u8) -> NumberSet
-        requires { (action < 16) × (state < 32) }
+        requires action { action < 16 }
+        requires state { state < 32 }
         ensures { Exactly (Has result) (λ u. Shows self.now.rows (action, state, u)) }
     {
         self.rows[action as usize * 32 + state as usize]
@@ -26,7 +27,9 @@ impl Arrows {
 
     // Adds an arrow.
     pub(crate) fn add(&mut self, action: u8, state: u8, other: u8)
-        requires { (action < 16) × ((state < 32) × (other < 32)) }
+        requires action { action < 16 }
+        requires state { state < 32 }
+        requires other { other < 32 }
         ensures { Joined (Shows self.old.rows) (Shows self.new.rows) (λ x. x ≡ (action, state, other)) }
     {
         let place = action as usize * 32 + state as usize;

@@ -8,26 +8,18 @@ use crate::charts::Charts;
 use language::Watcher;
 use model::Model;
 
-// The edges, from end to start.
-fn arrows_into(model: &Model) -> Arrows
-    ensures { Exactly (Shows result.rows) (Into model.now) }
+// The edges, from end to start and from start to end.
+fn arrows_of_edges(model: &Model) -> (Arrows, Arrows)
+    ensures into { Exactly (Shows result.0.rows) (Into model.now) }
+    ensures out { Exactly (Shows result.1.rows) (Out model.now) }
 {
-    let mut arrows = Arrows::none();
+    let mut into = Arrows::none();
+    let mut out = Arrows::none();
     for edge in model.edges() {
-        arrows.add(edge.action, edge.to, edge.from);
+        into.add(edge.action, edge.to, edge.from);
+        out.add(edge.action, edge.from, edge.to);
     }
-    arrows
-}
-
-// The edges, from start to end.
-fn arrows_out(model: &Model) -> Arrows
-    ensures { Exactly (Shows result.rows) (Out model.now) }
-{
-    let mut arrows = Arrows::none();
-    for edge in model.edges() {
-        arrows.add(edge.action, edge.from, edge.to);
-    }
-    arrows
+    (into, out)
 }
 
 // The watcher state after a step that is there.
@@ -35,15 +27,15 @@ pub fn step_of<W: Watcher>(watcher: &W, watch: u8, action: u8) -> u8
     requires { (W.Watcher.table watcher.now).next watch action ≢ None }
     ensures { result ≡ step (W.Watcher.table watcher.now) watch action }
 {
-    match watcher.next(watch, action) {
-        Some(next) => next,
-        None => 0,
-    }
+    watcher.next(watch, action).unwrap()
 }
 
 // Adds the watcher's steps from one of its states, from end to start.
 fn add_steps<W: Watcher>(watcher: &W, actions: u8, arrows: &mut Arrows, watch: u8)
-    requires { (actions ≤ 16) × ((Complete actions (W.Watcher.table watcher.now)) × (((W.Watcher.table watcher.now).states ≤ 32) × (watch < (W.Watcher.table watcher.now).states))) }
+    requires few_actions { actions ≤ 16 }
+    requires complete { Complete actions (W.Watcher.table watcher.now) }
+    requires small { (W.Watcher.table watcher.now).states ≤ 32 }
+    requires watch { watch < (W.Watcher.table watcher.now).states }
     ensures { Joined (Shows arrows.old.rows) (Shows arrows.new.rows) (BackFrom actions (W.Watcher.table watcher.now) watch) }
 {
     for action in 0..actions {
@@ -53,7 +45,9 @@ fn add_steps<W: Watcher>(watcher: &W, actions: u8, arrows: &mut Arrows, watch: u
 
 // The watcher's steps, from end to start.
 fn arrows_back<W: Watcher>(watcher: &W, actions: u8) -> Arrows
-    requires { (actions ≤ 16) × ((Complete actions (W.Watcher.table watcher.now)) × ((W.Watcher.table watcher.now).states ≤ 32)) }
+    requires few_actions { actions ≤ 16 }
+    requires complete { Complete actions (W.Watcher.table watcher.now) }
+    requires small { (W.Watcher.table watcher.now).states ≤ 32 }
     ensures { Exactly (Shows result.rows) (Back actions (W.Watcher.table watcher.now)) }
 {
     let mut arrows = Arrows::none();
@@ -67,12 +61,14 @@ fn arrows_back<W: Watcher>(watcher: &W, actions: u8) -> Arrows
 impl Charts {
     // The charts of a watcher and a model with the same actions.
     pub fn of<W: Watcher>(watcher: &W, model: &Model) -> Charts
-        requires { ((W.Watcher.table watcher.now).states ≤ 32) × (W.Alphabet.known watcher.now ≡ model.now.actions) }
+        requires small { (W.Watcher.table watcher.now).states ≤ 32 }
+        requires alphabet { W.Alphabet.known watcher.now ≡ model.now.actions }
         ensures { Charted model.now (W.Watcher.table watcher.now) result }
     {
+        let (into, out) = arrows_of_edges(model);
         Charts {
-            into: arrows_into(model),
-            out: arrows_out(model),
+            into,
+            out,
             back: arrows_back(watcher, model.actions()),
         }
     }

@@ -35,7 +35,8 @@ impl Positions {
 
     // Adds the position.
     pub(crate) fn add(&mut self, position: Position)
-        requires { (position.state < 32) × (position.watch < 32) }
+        requires state { position.state < 32 }
+        requires watch { position.watch < 32 }
         ensures { Joined (Holds self.old.rows) (Holds self.new.rows) (λ p. p ≡ pair position) }
     {
         let row = self

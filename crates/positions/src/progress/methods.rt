@@ -15,7 +15,8 @@ impl Progress {
 
     // How many actions of the position have been looked at.
     pub(crate) fn get(&self, position: Position) -> u8
-        requires { (position.state < 32) × (position.watch < 32) }
+        requires state { position.state < 32 }
+        requires watch { position.watch < 32 }
         ensures { result ≡ slice_index self.now.actions (place (pair position)) }
     {
         self.actions[position.watch as usize * 32 + position.state as usize]
@@ -23,7 +24,8 @@ impl Progress {
 
     // Notes how many actions of the position have been looked at.
     pub(crate) fn note(&mut self, position: Position, count: u8)
-        requires { (position.state < 32) × (position.watch < 32) }
+        requires state { position.state < 32 }
+        requires watch { position.watch < 32 }
         ensures { self.new.actions ≡ with self.old.actions (place (pair position)) count }
     {
         self.actions[position.watch as usize * 32 + position.state as usize] = count;

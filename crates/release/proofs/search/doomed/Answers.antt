@@ -1,63 +1,63 @@
-use Rattle.std.proofs.Common.{arith}
+use Rattle.std.proofs.Common.{sym, refl, ap, ◌∙◌, subst}
+use Rattle.model.specs.Relations.{Exactly}
 use Rattle.model.specs.Sets.{Has}
-use Rattle.positions.proofs.Leadings.{noted_none}
-use Rattle.release.proofs.Dooms.{begun_none, ready_start, roomy_pop, top_inside, ready_looked, turn_less, ready_end, sound_bad, doomed_all, states_without}
+use Rattle.positions.specs.Pairs.{Holds}
+use Rattle.positions.specs.Searches.{Roomy}
+use Rattle.positions.specs.Looking.{table_of}
+use Rattle.positions.specs.Beginnings.{BadBelow}
+use Rattle.positions.proofs.Turns.{charted}
+use Rattle.release.specs.Releases.{Doomed}
+use Rattle.release.proofs.Dooms.{ready_start, ready_looked, turn_less, ready_end, sound_bad, doomed_all, states_without, turn, doomed_by}
 use Rattle.release.proofs.search.doomed.Goals as goal
 
-pub doom_marked-requires : goal.doom_marked-requires
-doom_marked-requires g c =
-    let m = c.args.model.now in
-    (c.requires.0, ((λ s h. omega (arith, ((c.below.ensures s).0 ((c.without.ensures s).0 h).0).0, c.states.ensures)), begun_none m (g.W.Watcher.table c.args.watcher.now) (Has c.without.result) c.over-pile.ensures.empty (omega (arith, c.over-pile.ensures.room, c.requires.1.1)) c.none-found.ensures))
-
-pub search-init : goal.search-init
-search-init g c =
-    let m = c.args.model.now in
-    let t = g.W.Watcher.table c.args.watcher.now in
-    let begun = c.doom_marked.ensures in
-    (ready_start m t (Has c.args.freeing) c.doom_marked.new.found.rows c.doom_marked.new.pile begun.all, begun.roomy, noted_none m t c.doom_marked.new.found.rows c.none-progress.result.actions c.none-progress.ensures, (λ k s. s), λ p h. h)
-
-pub expand-requires : goal.expand-requires
-expand-requires g c =
-    let m = c.args.model.now in
-    let t = g.W.Watcher.table c.args.watcher.now in
-    let inv = c.search.invariant in
-    let taken = c.in-Some.ensures in
-    let top = c.in-Some.top in
-    let inside = top_inside m t (Has c.args.freeing) c.search.found.rows c.search.pile c.pop.new.self top taken.items inv.1 in
+pub loop-top-init : goal.loop-top-init
+loop-top-init g c =
+    let x = c.doom_marked.new.self in
+    let s = x.setting in
     record {
-      noted = inv.2;
-      given = (
-        c.of-charts.ensures,
-        (
-          roomy_pop m t (Has c.args.freeing) c.search.found.rows c.search.pile c.pop.new.self top taken.items taken.room inv.1,
-          (omega (arith, inside.0, m.few_states), omega (arith, inside.1, c.requires.0)),
-        ),
-      );
+      same = refl;
+      ready = ready_start s.model.now (table_of s) (Has s.freeing) x.found.rows x.pile c.doom_marked.ensures.all;
+      sound = λ k h. h;
+      keeps = λ p h. h;
     }
 
-pub search-preserved : goal.search-preserved
-search-preserved g c =
-    let inv = c.search.invariant in
-    let looked = c.expand.ensures.looked in (
-      ready_looked c.args.model.now (g.W.Watcher.table c.args.watcher.now) (Has c.args.freeing) c.search.found.rows c.search.pile c.pop.new.self c.in-Some.top c.in-Some.ensures.items inv.0 looked,
-      looked.roomy,
-      c.expand.ensures.noted,
-      (λ k s. looked.sound k (inv.3 k s)),
-      λ p h. looked.keeps p (inv.4 p h),
-    )
+pub loop-top-preserved : goal.loop-top-preserved
+loop-top-preserved g c =
+    let s = c.doom_marked.new.self.setting in
+    let x = c.loop-top.search in
+    let inv = c.loop-top.invariant in
+    let looked = turn s x c.pop.new.self c.expand.new.self c.in-Some.top (c.in-Some.ensures.setting ∙ inv.same) c.in-Some.ensures.found c.expand.ensures in
+    record {
+      same = c.expand.ensures.same ∙ c.in-Some.ensures.setting ∙ inv.same;
+      ready = ready_looked s.model.now (table_of s) (Has s.freeing) x.found.rows x.pile c.pop.new.self.pile c.in-Some.top c.in-Some.ensures.waiting inv.ready looked;
+      sound = λ k h. looked.sound k (inv.sound k h);
+      keeps = λ p h. looked.keeps p (inv.keeps p h);
+    }
 
-pub search-smaller : goal.search-smaller
-search-smaller g c =
-    turn_less c.args.model.now (g.W.Watcher.table c.args.watcher.now) (Has c.args.freeing) c.search.found.rows c.search.pile c.pop.new.self c.in-Some.top c.in-Some.ensures.items c.requires.0 c.expand.ensures.looked
+pub loop-top-smaller : goal.loop-top-smaller
+loop-top-smaller g c =
+    let x = c.loop-top.search in
+    let y = c.expand.new.self in
+    let s = x.setting in
+    let looked = turn s x c.pop.new.self y c.in-Some.top c.in-Some.ensures.setting c.in-Some.ensures.found c.expand.ensures in
+    turn_less s.model.now (table_of s) (Has s.freeing) x.found.rows x.pile c.pop.new.self.pile c.in-Some.top c.in-Some.ensures.waiting (charted s).small
+    (subst (λ k. Roomy k.model.now (table_of k).states y.found.rows y.pile) (c.expand.ensures.same ∙ c.in-Some.ensures.setting) y.roomy) looked
 
 pub returns : goal.returns
 returns g c =
-    let m = c.args.model.now in
-    let t = g.W.Watcher.table c.args.watcher.now in
-    let inv = c.search.invariant in
+    let x = c.doom_marked.new.self in
+    let y = c.loop-top.search in
+    let s = x.setting in
+    let m = s.model.now in
+    let t = table_of s in
+    let inv = c.loop-top.invariant in
     let begun = c.doom_marked.ensures in
-    let unkept = states_without m c.states.result c.below.result c.args.kept c.without.result c.states.ensures c.below.ensures c.without.ensures in
-    doomed_all m t c.args.freeing c.args.kept c.search.found.rows c.of-charts.ensures.whole
-    (inv.3 c.args.kept (sound_bad m t (Has c.args.freeing) (Has c.args.kept) c.doom_marked.new.found.rows (Has c.without.result) c.requires.0 begun.bad (λ s u. (unkept s).0 u)))
-    (λ s q a b bad. inv.4 (s, q) ((begun.bad (s, q)).1 (b, bad.0, (unkept s).1 (a, bad.1))))
-    (ready_end m t (Has c.args.freeing) c.search.found.rows c.search.pile c.in_default.ensures.items inv.0)
+    let made = c.over-search.ensures in
+    let unkept = states_without m c.states.result c.below.result c.args.kept c.without.result (c.states.ensures ∙ sym (ap (λ k. k.model.now.states) begun.same ∙ ap (λ k. k.states) made.model)) c.below.ensures c.without.ensures in
+    let bad = subst (λ k. Exactly (Holds x.found.rows) (BadBelow (table_of k) (table_of k).states (Has c.without.result))) (sym begun.same) begun.bad in
+    let all = doomed_all m t s.freeing c.args.kept y.found.rows (charted s).whole
+    (inv.sound c.args.kept (sound_bad m t (Has s.freeing) (Has c.args.kept) x.found.rows (Has c.without.result) (charted s).small bad (λ u. (unkept u).0)))
+    (λ u q k l b. inv.keeps (u, q) ((bad (u, q)).1 (l, b.0, (unkept u).1 (k, b.1))))
+    (ready_end m t (Has s.freeing) y.found.rows y.pile c.in_default.ensures.waiting inv.ready) in
+    subst (λ f. Doomed c.args.model.now (g.W.Watcher.table c.args.watcher.now) (Has c.args.freeing) (Has c.args.kept) f.rows) (sym c.in_default.ensures.found)
+    (doomed_by s c.args.watcher.now c.args.model.now c.args.freeing (Has c.args.kept) y.found.rows (ap (λ k. k.watcher.now) begun.same ∙ made.watcher) (ap (λ k. k.model.now) begun.same ∙ made.model) (ap (λ k. k.freeing) begun.same ∙ made.freeing) all)

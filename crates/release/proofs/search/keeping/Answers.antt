@@ -10,10 +10,10 @@ use Rattle.release.proofs.search.keeping.Goals as goal
 pub doomed-found-requires : goal.doomed-found-requires
 doomed-found-requires g c =
     let m = c.args.model.now in
-    (c.requires.0, (c.requires.1, mul-le m.states (g.W.Watcher.table c.args.watcher.now).states 32 32 m.few_states c.requires.0))
+    record { small = c.requires.small; alphabet = c.requires.alphabet; room = mul-le m.states (g.W.Watcher.table c.args.watcher.now).states 32 32 m.few_states c.requires.small }
 
 pub row-requires : goal.row-requires
-row-requires g c = omega (arith, c.start.ensures, c.requires.0, (g.met.W.Watcher.complete c.args.watcher.now c.requires.0).starts)
+row-requires g c = omega (arith, c.start.ensures, c.requires.small, (g.met.W.Watcher.complete c.args.watcher.now c.requires.small).starts)
 
 pub returns : goal.returns
 returns g c =
@@ -24,8 +24,8 @@ returns g c =
     let row : c.row.result ≡ get_or rows t.start nothing = c.row.ensures ∙ ap (λ q. get_or rows q nothing) c.start.ensures in
     let left = states_without m c.states.result c.below.result c.row.result c.without.result c.states.ensures c.below.ensures c.without.ensures in
     let spared = subst (λ (x : NumberSet). Exactly (Has c.without.result) (λ s. (s < m.states) × (Has x s → ⊥))) row left in
-    let answer = released m t (Has c.args.freeing) (Has c.args.kept) rows c.without.result (g.met.W.Watcher.complete w c.requires.0).starts c.doomed-found.ensures spared in
+    let answer = released m t (Has c.args.freeing) (Has c.args.kept) rows c.without.result (g.met.W.Watcher.complete w c.requires.small).starts c.doomed-found.ensures spared in
     record {
       accepted = answer;
-      words = released_words m (Has c.args.freeing) (Has c.args.kept) (Accepts t) (g.W.Watcher.words w) (m.states * t.states) c.without.result (λ u. g.met.W.Watcher.only_accepted w u c.requires.0) (λ u. g.met.W.Watcher.accepted w u c.requires.0) answer;
+      words = released_words m (Has c.args.freeing) (Has c.args.kept) (Accepts t) (g.W.Watcher.words w) (m.states * t.states) c.without.result (λ u. g.met.W.Watcher.only_accepted w u c.requires.small) (λ u. g.met.W.Watcher.accepted w u c.requires.small) answer;
     }

@@ -10,12 +10,12 @@ pub loop-action-init : goal.loop-action-init
 loop-action-init g c = joined_none _
 
 pub step_of-requires : goal.step_of-requires
-step_of-requires g c = step_there c.args.actions (g.W.Watcher.table c.args.watcher.now) c.requires.1.0 c.args.watch c.loop-action.action c.requires.1.1.1 c.loop-action-test.true
+step_of-requires g c = step_there c.args.actions (g.W.Watcher.table c.args.watcher.now) c.requires.complete c.args.watch c.loop-action.action c.requires.watch c.loop-action-test.true
 
-pub add-requires : goal.add-requires
-add-requires g c =
-    let l = step_below c.args.actions (g.W.Watcher.table c.args.watcher.now) c.requires.1.0 c.args.watch c.loop-action.action c.requires.1.1.1 c.loop-action-test.true in
-    (omega (arith, c.requires.0, c.loop-action-test.true), (omega (arith, l, c.step_of.ensures, c.requires.1.1.0), omega (arith, c.requires.1.1.0, c.requires.1.1.1)))
+pub add-requires-clause-state : goal.add-requires-clause-state
+add-requires-clause-state g c =
+    let l = step_below c.args.actions (g.W.Watcher.table c.args.watcher.now) c.requires.complete c.args.watch c.loop-action.action c.requires.watch c.loop-action-test.true in
+    omega (arith, c.step_of.ensures, c.requires.small)
 
 pub loop-action-preserved : goal.loop-action-preserved
 loop-action-preserved g c = joined_more _ c.loop-action.action c.loop-action.invariant

@@ -6,8 +6,8 @@ use Rattle.charts.proofs.charts.making.arrows_back.Goals as goal
 pub loop-watch-init : goal.loop-watch-init
 loop-watch-init g c = joined_none _
 
-pub add_steps-requires : goal.add_steps-requires
-add_steps-requires g c = (c.requires.0, (c.requires.1.0, (c.requires.1.1, omega (arith, c.state_count-watches.ensures, c.loop-watch-test.true))))
+pub add_steps-requires-clause-watch : goal.add_steps-requires-clause-watch
+add_steps-requires-clause-watch g c = omega (arith, c.state_count-watches.ensures, c.loop-watch-test.true)
 
 pub loop-watch-preserved : goal.loop-watch-preserved
 loop-watch-preserved g c = joined_more _ c.loop-watch.watch c.loop-watch.invariant c.add_steps.ensures
