@@ -1,11 +1,10 @@
--- The answer that a question came back with.
-use Rattle.std.specs.Prelude.{Bool, true, false, Ok, Err, Result}
+-- What is said of the answer that a question came back with.
+use Rattle.std.specs.Prelude.{Bool, true, false, ℕ, List, ◌++◌, Ok, Err, Result, codes}
+use Rattle.std.specs.Fmt.{decimal}
 use Rattle.model.specs.Refusals.{number}
 use Rattle.model.specs.declared.refusal.Refusal.{Refusal}
-use Rattle.words.specs.declared.answer.Answer.{Answer}
-use Rattle.words.specs.declared.answer.Answer.TheVariants.{In, Out, Refused}
 
-abbrev pub answer_of : Result Bool Refusal → Answer
-answer_of (Ok true) = In
-answer_of (Ok false) = Out
-answer_of (Err e) = Refused (number e)
+abbrev pub said : Result Bool Refusal → List ℕ
+said (Ok true) = codes "in"
+said (Ok false) = codes "out"
+said (Err e) = codes "refused with " ++ decimal (number e)

@@ -2,41 +2,24 @@
 ghost use Rattle.std.specs.Prelude.{◌≡◌, OnOk};
 ghost use Rattle.words.specs.Counting.{Noted};
 
-use crate::answer::Answer;
+use crate::finding::Finding;
+use anyhow::bail;
 use model::Refusal;
 use std::io;
 
-// Why the program ends with an error.
-#[derive(Debug, Drop)]
-pub enum Failure {
-    Refused(Refusal),
-    Printing(io::Error),
-    Different(u32),
-}
-
-impl From<Refusal> for Failure {
-    fn from(refusal: Refusal) -> Failure {
-        Failure::Refused(refusal)
-    }
-}
-
-impl From<io::Error> for Failure {
-    fn from(error: io::Error) -> Failure {
-        Failure::Printing(error)
-    }
-}
-
 #[derive(Drop)]
-pub struct Checks {
+pub struct Checks<'a> {
+    rt: &'a HostRuntime,
     made: u32,
     different: u32,
 }
 
-impl Checks {
-    pub fn new() -> Checks
+impl<'a> Checks<'a> {
+    pub fn new(rt: &'a HostRuntime) -> Checks<'a>
         ensures { result.different ≡ 0 }
     {
         Checks {
+            rt,
             made: 0,
             different: 0,
         }
@@ -45,11 +28,10 @@ impl Checks {
     // Prints what was found of a word beside what is expected, and counts a difference.
     pub fn note(
         &mut self,
-        rt: &HostRuntime,
         kind: &str,
         word: &[u8],
-        found: Answer,
-        expected: Answer,
+        found: Result<bool, Refusal>,
+        expected: Result<bool, Refusal>,
     ) -> io::Result<()>
         ensures { Noted self.old.different self.new.different found expected }
     {
@@ -57,20 +39,19 @@ impl Checks {
         if found != expected {
             self.different = self.different.saturating_add(1);
         }
-        println!(rt; "{kind}: {word:?} is {found}, expected {expected}")
+        let (found, expected) = (Finding(found), Finding(expected));
+        println!(self.rt; "{kind}: {word:?} is {found}, expected {expected}")
     }
 
-    // Prints the counts; a difference is a failure.
-    pub fn close(&self, rt: &HostRuntime) -> Result<(), Failure>
+    // Prints the counts; a difference is an error.
+    pub fn close(&self) -> anyhow::Result<()>
         ensures { OnOk result (self.now.different ≡ 0) }
     {
-        let made = self.made;
-        let different = self.different;
-        println!(rt; "{made} words, {different} differences")?;
-        if different == 0 {
-            Ok(())
-        } else {
-            Err(Failure::Different(different))
+        let (made, different) = (self.made, self.different);
+        println!(self.rt; "{made} words, {different} differences")?;
+        if different > 0 {
+            bail!("a word is not as expected");
         }
+        Ok(())
     }
 }

@@ -21,20 +21,25 @@ pub fn last_one() -> Result<TableWatcher, Refusal> {
 
 // Some zeros, and then as many ones.
 pub fn equal_runs() -> Result<Grammar, Refusal> {
+    let rules = [
+        Rule::Lead {
+            head: 0,
+            action: 0,
+            rest: 1,
+        },
+        Rule::Pair {
+            head: 1,
+            left: 0,
+            right: 2,
+        },
+        Rule::Letter { head: 1, action: 1 },
+        Rule::Letter { head: 2, action: 1 },
+    ];
     let mut grammar = Grammar::new();
     grammar.size(3, 2)?;
-    grammar.add_rule(Rule::Lead {
-        head: 0,
-        action: 0,
-        rest: 1,
-    })?;
-    grammar.add_rule(Rule::Pair {
-        head: 1,
-        left: 0,
-        right: 2,
-    })?;
-    grammar.add_rule(Rule::Letter { head: 1, action: 1 })?;
-    grammar.add_rule(Rule::Letter { head: 2, action: 1 })?;
+    for rule in rules {
+        grammar.add_rule(rule)?;
+    }
     Ok(grammar)
 }
 
@@ -42,31 +47,9 @@ pub fn equal_runs() -> Result<Grammar, Refusal> {
 pub fn last_but_one() -> Result<Automaton, Refusal> {
     let mut automaton = Automaton::new();
     automaton.size(3, 2)?;
-    automaton.add_edge(Edge {
-        from: 0,
-        action: 0,
-        to: 0,
-    })?;
-    automaton.add_edge(Edge {
-        from: 0,
-        action: 1,
-        to: 0,
-    })?;
-    automaton.add_edge(Edge {
-        from: 0,
-        action: 1,
-        to: 1,
-    })?;
-    automaton.add_edge(Edge {
-        from: 1,
-        action: 0,
-        to: 2,
-    })?;
-    automaton.add_edge(Edge {
-        from: 1,
-        action: 1,
-        to: 2,
-    })?;
+    for (from, action, to) in [(0, 0, 0), (0, 1, 0), (0, 1, 1), (1, 0, 2), (1, 1, 2)] {
+        automaton.add_edge(Edge { from, action, to })?;
+    }
     automaton.set_final(2)?;
     Ok(automaton)
 }

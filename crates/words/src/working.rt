@@ -1,135 +1,95 @@
 // The words of each kind that are worked.
-use crate::answer::Answer;
-use crate::checks::{Checks, Failure};
+use crate::checks::Checks;
 use crate::samples;
 use crate::wide::Wide;
 use chart::derives;
-use language::{UntilLanguage, Watcher};
-use std::io;
+use model::Refusal;
 use watchers::accepts;
 
-// Asks a watcher.
-fn watched<W: Watcher>(
-    rt: &HostRuntime,
-    checks: &mut Checks,
-    kind: &str,
-    watcher: &W,
-    word: &[u8],
-    expected: Answer,
-) -> io::Result<()> {
-    checks.note(rt, kind, word, Answer::of(accepts(watcher, word)), expected)
-}
+// A word, and whether it is in the language or why the question is refused.
+type Case<'a> = (&'a [u8], Result<bool, Refusal>);
 
-// Asks an until language.
-fn derived<L: UntilLanguage>(
-    rt: &HostRuntime,
-    checks: &mut Checks,
-    kind: &str,
-    language: &L,
-    word: &[u8],
-    expected: Answer,
-) -> io::Result<()> {
-    checks.note(
-        rt,
-        kind,
-        word,
-        Answer::of(derives(language, word)),
-        expected,
-    )
-}
-
-pub fn watchers(rt: &HostRuntime, checks: &mut Checks) -> Result<(), Failure> {
+pub fn watchers(checks: &mut Checks) -> anyhow::Result<()> {
     let steps = samples::steps()?;
-    watched(rt, checks, "steps", &steps, &[0], Answer::In)?;
-    watched(rt, checks, "steps", &steps, &[1, 0, 1, 0], Answer::In)?;
-    watched(rt, checks, "steps", &steps, &[], Answer::Out)?;
-    watched(rt, checks, "steps", &steps, &[0, 1, 0], Answer::Out)?;
-    watched(rt, checks, "steps", &steps, &[2], Answer::Out)?;
+    let cases: [Case; 5] = [
+        (&[0], Ok(true)),
+        (&[1, 0, 1, 0], Ok(true)),
+        (&[], Ok(false)),
+        (&[0, 1, 0], Ok(false)),
+        (&[2], Ok(false)),
+    ];
+    for (word, expected) in cases {
+        checks.note("steps", word, accepts(&steps, word), expected)?;
+    }
     let last_one = samples::last_one()?;
-    watched(rt, checks, "table", &last_one, &[1], Answer::In)?;
-    watched(rt, checks, "table", &last_one, &[0, 1, 1], Answer::In)?;
-    watched(rt, checks, "table", &last_one, &[], Answer::Out)?;
-    watched(rt, checks, "table", &last_one, &[1, 0], Answer::Out)?;
-    watched(rt, checks, "table", &last_one, &[2, 1], Answer::Out)?;
+    let cases: [Case; 5] = [
+        (&[1], Ok(true)),
+        (&[0, 1, 1], Ok(true)),
+        (&[], Ok(false)),
+        (&[1, 0], Ok(false)),
+        (&[2, 1], Ok(false)),
+    ];
+    for (word, expected) in cases {
+        checks.note("table", word, accepts(&last_one, word), expected)?;
+    }
     Ok(())
 }
 
-pub fn grammar(rt: &HostRuntime, checks: &mut Checks) -> Result<(), Failure> {
+pub fn grammar(checks: &mut Checks) -> anyhow::Result<()> {
     let grammar = samples::equal_runs()?;
-    derived(rt, checks, "grammar", &grammar, &[0, 1], Answer::In)?;
-    derived(
-        rt,
-        checks,
-        "grammar",
-        &grammar,
-        &[0, 0, 0, 1, 1, 1],
-        Answer::In,
-    )?;
-    derived(rt, checks, "grammar", &grammar, &[], Answer::Out)?;
-    derived(rt, checks, "grammar", &grammar, &[0, 0, 1], Answer::Out)?;
-    derived(rt, checks, "grammar", &grammar, &[1, 0], Answer::Out)?;
-    derived(
-        rt,
-        checks,
-        "grammar",
-        &grammar,
-        &[0; 32],
-        Answer::Refused(4),
-    )?;
+    let cases: [Case; 6] = [
+        (&[0, 1], Ok(true)),
+        (&[0, 0, 0, 1, 1, 1], Ok(true)),
+        (&[], Ok(false)),
+        (&[0, 0, 1], Ok(false)),
+        (&[1, 0], Ok(false)),
+        (&[0; 32], Err(Refusal::OutOfRange)),
+    ];
+    for (word, expected) in cases {
+        checks.note("grammar", word, derives(&grammar, word), expected)?;
+    }
     Ok(())
 }
 
-pub fn automaton(rt: &HostRuntime, checks: &mut Checks) -> Result<(), Failure> {
+pub fn automaton(checks: &mut Checks) -> anyhow::Result<()> {
     let automaton = samples::last_but_one()?;
-    derived(rt, checks, "automaton", &automaton, &[1, 0], Answer::In)?;
-    derived(
-        rt,
-        checks,
-        "automaton",
-        &automaton,
-        &[1, 0, 0, 1, 1],
-        Answer::In,
-    )?;
-    derived(rt, checks, "automaton", &automaton, &[], Answer::Out)?;
-    derived(rt, checks, "automaton", &automaton, &[1], Answer::Out)?;
-    derived(
-        rt,
-        checks,
-        "automaton",
-        &automaton,
-        &[1, 1, 0, 1],
-        Answer::Out,
-    )?;
+    let cases: [Case; 5] = [
+        (&[1, 0], Ok(true)),
+        (&[1, 0, 0, 1, 1], Ok(true)),
+        (&[], Ok(false)),
+        (&[1], Ok(false)),
+        (&[1, 1, 0, 1], Ok(false)),
+    ];
+    for (word, expected) in cases {
+        checks.note("automaton", word, derives(&automaton, word), expected)?;
+    }
     Ok(())
 }
 
-pub fn brackets(rt: &HostRuntime, checks: &mut Checks) -> Result<(), Failure> {
+pub fn brackets(checks: &mut Checks) -> anyhow::Result<()> {
     let brackets = samples::brackets()?;
-    derived(rt, checks, "brackets", &brackets, &[], Answer::In)?;
-    derived(rt, checks, "brackets", &brackets, &[0, 1], Answer::In)?;
-    derived(
-        rt,
-        checks,
-        "brackets",
-        &brackets,
-        &[2, 0, 0, 2, 1, 0, 1, 1, 2],
-        Answer::In,
-    )?;
-    derived(rt, checks, "brackets", &brackets, &[1, 0], Answer::Out)?;
-    derived(rt, checks, "brackets", &brackets, &[0, 0, 1], Answer::Out)?;
-    derived(
-        rt,
-        checks,
-        "brackets",
-        &brackets,
-        &[0, 1, 1, 0],
-        Answer::Out,
-    )?;
-    derived(rt, checks, "brackets", &brackets, &[0, 3, 1], Answer::Out)?;
+    let cases: [Case; 7] = [
+        (&[], Ok(true)),
+        (&[0, 1], Ok(true)),
+        (&[2, 0, 0, 2, 1, 0, 1, 1, 2], Ok(true)),
+        (&[1, 0], Ok(false)),
+        (&[0, 0, 1], Ok(false)),
+        (&[0, 1, 1, 0], Ok(false)),
+        (&[0, 3, 1], Ok(false)),
+    ];
+    for (word, expected) in cases {
+        checks.note("brackets", word, derives(&brackets, word), expected)?;
+    }
     Ok(())
 }
 
-pub fn wide(rt: &HostRuntime, checks: &mut Checks) -> Result<(), Failure> {
-    derived(rt, checks, "17 symbols", &Wide, &[0], Answer::Refused(8))?;
+pub fn wide(checks: &mut Checks) -> anyhow::Result<()> {
+    let word = [0];
+    checks.note(
+        "17 symbols",
+        &word,
+        derives(&Wide, &word),
+        Err(Refusal::TooLarge),
+    )?;
     Ok(())
 }
