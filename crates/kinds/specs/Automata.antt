@@ -1,8 +1,9 @@
 -- Automata: their words, the rules that they tell, and what the calls do.
-use Rattle.std.specs.Prelude.{◌≡◌, ℕ, ◌≤◌, Bool, true, false, ◌≢◌, ◌⊎◌, List, [], ◌∷◌, ◌++◌, map, length, take, Option, slice_index_or}
+use Rattle.std.specs.Prelude.{◌≡◌, ℕ, ◌≤◌, Bool, true, false, ◌≢◌, ◌⊎◌, List, [], ◌∷◌, ◌++◌, map, length, Option, slice_index_or}
 use Rattle.model.specs.Refusals.{Refuse, Accept}
 use Rattle.model.specs.Relations.{Among}
-use Rattle.model.specs.Drafts.{Outside}
+use Rattle.model.specs.RecordSets.{records_of}
+use Rattle.model.specs.Sizes.{Outside}
 use Rattle.model.specs.declared.edge.Edge.{Edge}
 use Rattle.language.specs.Words.{Word}
 use Rattle.language.specs.declared.rule.Rule.{Rule}
@@ -12,7 +13,7 @@ use Rattle.kinds.specs.declared.automaton.Automaton.{Automaton}
 
 -- the edges, in the order in which they were added
 abbrev pub edges_of : Automaton → List Edge
-edges_of m = take m.count m.edges
+edges_of m = records_of m.edges
 
 -- whether state q is final
 abbrev pub final_at : Automaton → ℕ → Bool

@@ -1,7 +1,7 @@
 -- Brackets: their words, the rules that they tell, and when they are refused.
 use Rattle.std.specs.Prelude.{◌≡◌, ℕ, suc, ◌≤◌, Bool, cond, not, ◌&&◌, ◌⊎◌, List, [], ◌∷◌, map, take, Option, ◌==◌}
 use Rattle.model.specs.Refusals.{Refuse, Accept}
-use Rattle.model.specs.Drafts.{Outside}
+use Rattle.model.specs.Sizes.{Outside}
 use Rattle.language.specs.Words.{Word, Known}
 use Rattle.language.specs.declared.rule.Rule.{Rule}
 use Rattle.language.specs.declared.rule.Rule.TheVariants.{Empty, Lead, Pair}

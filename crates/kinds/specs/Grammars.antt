@@ -1,8 +1,9 @@
 -- Grammars: their words, and what the calls do.
-use Rattle.std.specs.Prelude.{◌≡◌, ℕ, ◌≤◌, ◌⊎◌, List, [], ◌∷◌, ◌++◌, length, take, Option}
+use Rattle.std.specs.Prelude.{◌≡◌, ℕ, ◌≤◌, ◌⊎◌, List, [], ◌∷◌, ◌++◌, length, Option}
 use Rattle.model.specs.Refusals.{Refuse, Accept}
 use Rattle.model.specs.Relations.{Among}
-use Rattle.model.specs.Drafts.{Outside}
+use Rattle.model.specs.RecordSets.{records_of}
+use Rattle.model.specs.Sizes.{Outside}
 use Rattle.language.specs.Words.{Word}
 use Rattle.language.specs.Rules.{SymbolsBelow, ActionsBelow}
 use Rattle.language.specs.Derivations.{Derives}
@@ -11,7 +12,7 @@ use Rattle.kinds.specs.declared.grammar.Grammar.{Grammar}
 
 -- the rules, in the order in which they were added
 abbrev pub rules_of : Grammar → List Rule
-rules_of g = take g.count g.rules
+rules_of g = records_of g.rules
 
 -- the words that the rules derive from symbol 0
 abbrev pub GrammarWords : Grammar → Word → Type 0

@@ -2,6 +2,7 @@
 use Rattle.std.specs.Prelude.{◌≡◌, ℕ, zero, suc, ◌-◌, ◌<◌, ◌≤◌, ◌⊎◌, List, [], ◌∷◌, ◌++◌, map, length, Some, None, refl}
 use Rattle.std.proofs.Common.{ap, ◌∙◌, inl, inr, ⊎_elim, arith}
 use Rattle.std.specs.List.{slice_get}
+use Rattle.std.proofs.lemmas.Option.{slice_get_cases}
 use Rattle.model.specs.Relations.{Among}
 
 pub among_left : {X : Type 0} (x : X) (xs ys : List X) → Among x xs → Among x (xs ++ ys)
@@ -41,12 +42,5 @@ nth_right (x ∷ xs) ys (suc k) n e l =
     let s : k - length xs ≡ suc k - n = omega arith in
     nth_right xs ys k (length xs) refl (omega arith) ∙ ap (slice_get ys) s
 
-pub nth_map_some : {X Y : Type 0} (f : X → Y) (xs : List X) (k : ℕ) (x : X) → slice_get xs k ≡ Some x → slice_get (map f xs) k ≡ Some (f x)
-nth_map_some f [] k x e = let z : ◌≡◌ {A = ℕ} 0 1 = cc in absurd (omega arith)
-nth_map_some f (y ∷ xs) zero x e = cc
-nth_map_some f (y ∷ xs) (suc k) x e = nth_map_some f xs k x e
-
-pub nth_map_none : {X Y : Type 0} (f : X → Y) (xs : List X) (k : ℕ) → slice_get xs k ≡ None → slice_get (map f xs) k ≡ None
-nth_map_none f [] k e = refl
-nth_map_none f (y ∷ xs) zero e = let z : ◌≡◌ {A = ℕ} 0 1 = cc in absurd (omega arith)
-nth_map_none f (y ∷ xs) (suc k) e = nth_map_none f xs k e
+pub past_end : {X : Type 0} (xs : List X) (k : ℕ) → slice_get xs k ≡ None → length xs ≤ k
+past_end xs k e = ⊎_elim (λ (x, l, is, same). let z : ◌≡◌ {A = ℕ} 0 1 = cc in absurd (omega arith)) (λ p. p.0) (slice_get_cases xs k).1

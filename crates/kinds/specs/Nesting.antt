@@ -3,6 +3,8 @@ use Rattle.std.specs.Prelude.{◌≡◌, ℕ, zero, suc, ◌+◌, ◌-◌, ◌<�
 use Rattle.std.proofs.Common.{sym, ap, ◌∙◌, append_assoc, inl, inr, arith, length-set}
 use Rattle.std.proofs.Math.Path.{subst}
 use Rattle.std.specs.List.{slice_get}
+use Rattle.std.specs.Option.{option_map}
+use Rattle.std.proofs.lemmas.Option.{slice_get-map}
 use Rattle.std.proofs.lemmas.List.{get_or-set_same, get_or-set_other, get_or-replicate, length-replicate, length-map}
 use Rattle.std.proofs.lemmas.Bool.{and_from, and_left, and_right, and_parts, not-true, not_from_true, not_from_false, eq-eqb, ne_eqb, eqb-false, cases_eq}
 use Rattle.model.specs.Relations.{Among}
@@ -46,8 +48,8 @@ module _ (b : Brackets) where
   pub told_length : length (told b) ≡ 4 + length (others_of b)
   told_length = omega (arith, length-map (others_of b) over)
 
-  pub told_later : (k : ℕ) → 4 ≤ k → slice_get (told b) k ≡ slice_get (map over (others_of b)) (k - 4)
-  told_later k l = let e : k ≡ suc (suc (suc (suc (k - 4)))) = omega arith in ap (slice_get (told b)) e
+  pub told_later : (k : ℕ) → 4 ≤ k → slice_get (told b) k ≡ option_map over (slice_get (others_of b) (k - 4))
+  told_later k l = let e : k ≡ suc (suc (suc (suc (k - 4)))) = omega arith in ap (slice_get (told b)) e ∙ slice_get-map over (others_of b) (k - 4)
 
   other_apart : (a : ℕ) → other_action b a ≡ true → (a ≢ b.up) × (a ≢ b.down)
   other_apart a o =

@@ -1,5 +1,6 @@
--- Tables of rules: the first n places of a list are in use.
-use Rattle.std.specs.Prelude.{◌≡◌, ℕ, ◌<◌, Bool, true, ◌&&◌, List, nat_lt, slice_index_or}
+-- Lists of rules.
+use Rattle.std.specs.Prelude.{◌≡◌, ℕ, Bool, true, ◌&&◌, List, nat_lt}
+use Rattle.model.specs.Relations.{Among}
 use Rattle.language.specs.declared.rule.Rule.{Rule}
 use Rattle.language.specs.declared.rule.Rule.TheVariants.{Empty, Letter, Lead, Same, Pair}
 
@@ -11,10 +12,6 @@ fits k n (Lead H a B) = nat_lt H k && (nat_lt B k && nat_lt a n)
 fits k n (Same H B) = nat_lt H k && nat_lt B k
 fits k n (Pair H B C) = nat_lt H k && (nat_lt B k && nat_lt C k)
 
--- what stands at a place that is not in use
-abbrev pub no_rule : Rule
-no_rule = Empty 0
-
--- the rules in use name what is there
-abbrev pub AllFit : ℕ → ℕ → List Rule → ℕ → Type 0
-AllFit symbols actions rs n = (k : ℕ) → k < n → fits symbols actions (slice_index_or rs k no_rule) ≡ true
+-- the rules of a list name what is there
+abbrev pub AllFit : ℕ → ℕ → List Rule → Type 0
+AllFit symbols actions rs = (r : Rule) → Among r rs → fits symbols actions r ≡ true

@@ -1,20 +1,18 @@
 -- The rules that an automaton tells, and its runs.
-use Rattle.std.specs.Prelude.{◌≡◌, ℕ, zero, suc, ◌+◌, ◌-◌, ◌<◌, ◌≤◌, true, ◌⊎◌, [], ◌∷◌, map, length, Some, None, slice_index_or, refl}
+use Rattle.std.specs.Prelude.{◌≡◌, ℕ, zero, suc, ◌+◌, ◌-◌, ◌<◌, ◌≤◌, true, ◌⊎◌, [], ◌∷◌, map, length, Some, option_map, refl}
 use Rattle.std.proofs.Common.{sym, ap, subst, ◌∙◌, inl, inr, ⊎_elim, arith}
 use Rattle.std.specs.List.{slice_get}
-use Rattle.std.proofs.lemmas.List.{length-append, length-map, length-take-le}
+use Rattle.std.proofs.lemmas.List.{length-append, length-map}
+use Rattle.std.proofs.lemmas.Option.{slice_get_within, slice_get-map}
 use Rattle.model.specs.Relations.{Among}
-use Rattle.model.specs.Edges.{Inside, no_edge}
 use Rattle.model.specs.declared.edge.Edge.{Edge}
-use Rattle.model.proofs.Tables.{among_place}
 use Rattle.language.specs.Words.{Word}
 use Rattle.language.specs.Derivations.{Yields, DerivesWithin}
 use Rattle.language.specs.declared.rule.Rule.{Rule}
 use Rattle.language.specs.declared.rule.Rule.TheVariants.{Empty, Lead}
 use Rattle.kinds.specs.declared.automaton.Automaton.{Automaton}
 use Rattle.kinds.specs.Automata.{edges_of, final_at, finals_of, told, Runs}
-use Rattle.kinds.specs.Members.{among_left, among_right, among_cases, among_map, among_mapped, nth_left, nth_right, nth_map_some, nth_map_none}
-use Rattle.kinds.specs.Finding.{nth_in_use}
+use Rattle.kinds.specs.Members.{among_left, among_right, among_cases, among_map, among_mapped, nth_left, nth_right}
 use Rattle.kinds.specs.Passing.{marked_below}
 use Rattle.kinds.specs.Passed.{passing_few, passing_among, among_passing}
 
@@ -24,17 +22,14 @@ leads e = Lead e.from e.action e.to
 abbrev empties : ℕ → Rule
 empties q = Empty q
 
-pub edges_long : (m : Automaton) → length (edges_of m) ≡ m.count
-edges_long m = length-take-le m.count m.edges (omega (arith, m.all_edges, m.few_edges))
-
-rules_long : (m : Automaton) → length (map leads (edges_of m)) ≡ m.count
-rules_long m = length-map (edges_of m) leads ∙ edges_long m
+rules_long : (m : Automaton) → length (map leads (edges_of m)) ≡ length (edges_of m)
+rules_long m = length-map (edges_of m) leads
 
 pub finals_few : (m : Automaton) → length (finals_of m) ≤ m.states
 unfolding marked_below
 finals_few m = passing_few (final_at m) m.states 0
 
-pub told_length : (m : Automaton) → length (told m) ≡ m.count + length (finals_of m)
+pub told_length : (m : Automaton) → length (told m) ≡ length (edges_of m) + length (finals_of m)
 unfolding told
 told_length m =
     let a = length-append (map leads (edges_of m)) (map empties (finals_of m)) in
@@ -42,19 +37,15 @@ told_length m =
     omega (arith, a, b, rules_long m)
 
 -- the rules by their places
-pub told_edge : (m : Automaton) (k : ℕ) → k < m.count → slice_get (told m) k ≡ Some (leads (slice_index_or m.edges k no_edge))
+pub told_edge : (m : Automaton) (k : ℕ) (e : Edge) → slice_get (edges_of m) k ≡ Some e → slice_get (told m) k ≡ Some (leads e)
 unfolding told
-told_edge m k l =
-    let e = nth_in_use m.edges m.count k no_edge (omega (arith, m.all_edges, m.few_edges)) l in
-    nth_left (map leads (edges_of m)) (map empties (finals_of m)) k (omega (arith, rules_long m)) ∙ nth_map_some leads (edges_of m) k (slice_index_or m.edges k no_edge) e
+told_edge m k e is =
+    let l : k < length (map leads (edges_of m)) = omega (arith, rules_long m, slice_get_within (edges_of m) k e is) in
+    nth_left (map leads (edges_of m)) (map empties (finals_of m)) k l ∙ slice_get-map leads (edges_of m) k ∙ ap (option_map leads) is
 
-pub told_final : (m : Automaton) (k q : ℕ) → m.count ≤ k → slice_get (finals_of m) (k - m.count) ≡ Some q → slice_get (told m) k ≡ Some (Empty q)
+pub told_rest : (m : Automaton) (k : ℕ) → length (edges_of m) ≤ k → slice_get (told m) k ≡ option_map empties (slice_get (finals_of m) (k - length (edges_of m)))
 unfolding told
-told_final m k q l e = nth_right (map leads (edges_of m)) (map empties (finals_of m)) k m.count (sym (rules_long m)) l ∙ nth_map_some empties (finals_of m) (k - m.count) q e
-
-pub told_none : (m : Automaton) (k : ℕ) → m.count ≤ k → slice_get (finals_of m) (k - m.count) ≡ None → slice_get (told m) k ≡ None
-unfolding told
-told_none m k l e = nth_right (map leads (edges_of m)) (map empties (finals_of m)) k m.count (sym (rules_long m)) l ∙ nth_map_none empties (finals_of m) (k - m.count) e
+told_rest m k l = nth_right (map leads (edges_of m)) (map empties (finals_of m)) k (length (edges_of m)) (sym (rules_long m)) l ∙ slice_get-map empties (finals_of m) (k - length (edges_of m))
 
 -- the rules by what they are
 pub edge_told : (m : Automaton) (e : Edge) → Among e (edges_of m) → Among (leads e) (told m)
@@ -74,17 +65,12 @@ told_cases m r there = ⊎_elim
     inr (q, omega (arith, f.0), f.1, same))
     (among_cases r (map leads (edges_of m)) (map empties (finals_of m)) there)
 
-pub edge_inside : (m : Automaton) (e : Edge) → Among e (edges_of m) → Inside m.states m.actions e
-edge_inside m e there =
-    let (k, l, is) = among_place m.edges m.count no_edge e (omega (arith, m.all_edges, m.few_edges)) there in
-    subst (Inside m.states m.actions) is (m.inside k l)
-
 -- a run to a final state is a derivation
 pub derives_run : (m : Automaton) (w : Word) (p q : ℕ) → p < m.states → Runs m p w q → final_at m q ≡ true → DerivesWithin (told m) (suc (length w)) p w
 derives_run m [] p q l runs final = (Empty p, final_told m p l (ap (final_at m) runs ∙ final), (refl, refl))
 derives_run m (a ∷ w) p q l (r, there, runs) final =
     let e : Edge = record { from = p; action = a; to = r } in
-    (Lead p a r, edge_told m e there, (refl, w, refl, derives_run m w r q (edge_inside m e there).2 runs final))
+    (Lead p a r, edge_told m e there, (refl, w, refl, derives_run m w r q (m.inside e there).2 runs final))
 
 -- and a derivation is a run
 pub run_from : (m : Automaton) (h p : ℕ) (w : Word) → DerivesWithin (told m) h p w → (q : ℕ) × Runs m p w q × (final_at m q ≡ true)

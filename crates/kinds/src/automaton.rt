@@ -1,27 +1,22 @@
 // A language by the runs of an automaton.
 ghost use Rattle.std.specs.Prelude.{◌≡◌, ◌≤◌, length};
-ghost use Rattle.model.specs.Relations.{Distinct};
-ghost use Rattle.model.specs.Edges.{AllInside, no_edge};
+ghost use Rattle.model.specs.Edges.{AllInside};
 
-use model::Edge;
+use model::{Edge, RecordSet};
 
-// The first `count` edges are in use, no two of them equal; a run starts in state 0, and its word is in the set where it ends in a final state.
+// A run starts in state 0, and its word is in the set where it ends in a final state.
 #[derive(Drop)]
 pub struct Automaton {
     states: u8,
     actions: u8,
-    edges: [Edge; 64],
-    count: usize,
+    edges: RecordSet<Edge, 64>,
     finals: [bool; 16],
     ghost some_state: { 1 ≤ states },
     ghost few_states: { states ≤ 16 },
     ghost some_action: { 1 ≤ actions },
     ghost few_actions: { actions ≤ 16 },
-    ghost all_edges: { length edges ≡ 64 },
-    ghost few_edges: { count ≤ 64 },
     ghost all_finals: { length finals ≡ 16 },
-    ghost inside: { AllInside states actions edges count },
-    ghost distinct: { Distinct no_edge edges count },
+    ghost inside: { AllInside states actions edges.records.items },
 }
 
 mod telling;

@@ -1,25 +1,21 @@
 // A language by its rules.
-ghost use Rattle.std.specs.Prelude.{◌≡◌, ◌≤◌, length};
-ghost use Rattle.model.specs.Relations.{Distinct};
-ghost use Rattle.kinds.specs.Rows.{no_rule, AllFit};
+ghost use Rattle.std.specs.Prelude.{◌≤◌};
+ghost use Rattle.kinds.specs.Rows.{AllFit};
 
 use language::Rule;
+use model::RecordSet;
 
-// The first `count` rules are in use, no two of them equal; its words are those that they derive from symbol 0.
+// Its words are those that they derive from symbol 0.
 #[derive(Drop)]
 pub struct Grammar {
     symbols: u8,
     actions: u8,
-    rules: [Rule; 128],
-    count: usize,
+    rules: RecordSet<Rule, 128>,
     ghost some_symbol: { 1 ≤ symbols },
     ghost few_symbols: { symbols ≤ 16 },
     ghost some_action: { 1 ≤ actions },
     ghost few_actions: { actions ≤ 16 },
-    ghost all_rules: { length rules ≡ 128 },
-    ghost few_rules: { count ≤ 128 },
-    ghost inside: { AllFit symbols actions rules count },
-    ghost distinct: { Distinct no_rule rules count },
+    ghost inside: { AllFit symbols actions rules.records.items },
 }
 
 mod telling;

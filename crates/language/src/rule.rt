@@ -1,5 +1,8 @@
 ghost use Rattle.std.specs.Prelude.{◌≡◌, Decides};
 ghost use Rattle.language.specs.Rules.{head_of};
+ghost use Rattle.std.proofs.Common.{rules};
+
+use model::Record;
 
 // A rule of an until language: what its head symbol gives, in one of five forms.
 #[derive(Clone, Copy, PartialEq, Eq, Debug)]
@@ -36,4 +39,16 @@ impl Rule {
     {
         self == other
     }
+}
+
+impl Default for Rule {
+    fn default() -> Rule {
+        Rule::Empty { head: 0 }
+    }
+}
+
+impl Record for Rule {
+    ghost identical = { Prim.search rules };
+
+    ghost equal = { Prim.search rules };
 }

@@ -3,11 +3,10 @@ use Rattle.std.proofs.Common.{◌≡◌, ℕ, zero, suc, ◌+◌, ◌<◌, List,
 use Rattle.model.specs.declared.edge.Edge.{Edge}
 use Rattle.model.specs.declared.edge.Step.{Step}
 use Rattle.model.specs.declared.model.Model.{Model}
-use Rattle.model.specs.Edges.{Inside, no_edge}
+use Rattle.model.specs.Edges.{Inside}
 use Rattle.model.specs.Models.{HasEdge}
 use Rattle.model.specs.Relations.{Among}
 use Rattle.model.specs.Sets.{Has}
-use Rattle.model.proofs.Tables.{among_place}
 use Rattle.language.specs.declared.rule.Rule.{Rule}
 use Rattle.language.specs.declared.rule.Rule.TheVariants.{Empty, Letter, Lead, Same, Pair}
 use Rattle.language.specs.Derivations.{Yields, Derives, DerivesWithin}
@@ -18,9 +17,7 @@ use Rattle.least.specs.Walks.{WalkWithin, Walk, Leads, GivesIn}
 
 -- the edges of a model are inside it
 pub edge_inside : (m : Model) (e : Edge) → HasEdge m e → Inside m.states m.actions e
-edge_inside m e e∈ =
-    let (k, l, is) = among_place m.edges m.count no_edge e (omega (arith, m.few_edges, m.all_edges)) e∈ in
-    subst (Inside m.states m.actions) is (m.inside k l)
+edge_inside m = m.inside
 
 yields_mono : (r : Rule) (F G : ℕ → Word → Type 0) → ((X : ℕ) (w : Word) → F X w → G X w) → (X : ℕ) (w : Word) → Yields r F X w → Yields r G X w
 yields_mono (Empty H) F G f X w d = d

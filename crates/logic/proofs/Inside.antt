@@ -7,18 +7,14 @@ use lib.ListN.{take}
 use Rattle.model.specs.declared.edge.Edge.{Edge}
 use Rattle.model.specs.declared.edge.Step.{Step}
 use Rattle.model.specs.declared.model.Model.{Model}
-use Rattle.model.specs.Edges.{Inside, no_edge}
+use Rattle.model.specs.Edges.{Inside}
 use Rattle.model.specs.Models.{HasEdge}
-use Rattle.model.proofs.Tables.{among_place}
 use Rattle.logic.specs.Paths.{edge, Chain, end}
 use Rattle.logic.specs.Maximal.{Maximal, stopped, endless, before, state_at}
 
 -- an edge of a model names states and an action that are there
 pub edge_inside : (m : Model) (e : Edge) → HasEdge m e → Inside m.states m.actions e
-edge_inside m e there =
-    let room : m.count ≤ 256 = m.few_edges in
-    let (k, l, is) = among_place m.edges m.count no_edge e (omega (arith, m.all_edges)) there in
-    subst (λ x. Inside m.states m.actions x) is (m.inside k l)
+edge_inside m = m.inside
 
 pub end_inside : (m : Model) (s : ℕ) (p : List Step) → s < m.states → Chain m s p → end s p < m.states
 end_inside m s [] l chain = l

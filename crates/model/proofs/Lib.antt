@@ -1,3 +1,4 @@
 pub mod Bits
 pub mod Joins
 pub mod Tables
+pub mod RecordSets

@@ -3,13 +3,10 @@ use Rattle.std.specs.Prelude.{◌≡◌, ℕ, ◌<◌, ◌≤◌, ◌≢◌, ◌
 use Rattle.model.specs.declared.edge.Edge.{Edge}
 use Rattle.model.specs.declared.model.Model.{Model}
 use Rattle.model.specs.Refusals.{Refuse, Accept}
+use Rattle.model.specs.Sizes.{Outside}
 use Rattle.model.specs.Relations.{Joined}
 use Rattle.model.specs.Sets.{Has}
 use Rattle.model.specs.Models.{edges_of, HasEdge, blank, propositions_of}
-
--- a number lies outside its range
-abbrev pub Outside : ℕ → ℕ → ℕ → Type 0
-Outside low high n = (n < low) ⊎ (high < n)
 
 -- a model of the given sizes, with no edge and no proposition
 pub record Bare (n a : ℕ) (m : Model) : Type 0 where

@@ -1,6 +1,7 @@
--- Tables of edges: the first n places of a list are in use.
-use Rattle.std.specs.Prelude.{ℕ, ◌<◌, List, slice_index_or}
+-- Edges, and lists of them.
+use Rattle.std.specs.Prelude.{ℕ, ◌<◌, List}
 use Rattle.model.specs.declared.edge.Edge.{Edge}
+use Rattle.model.specs.Relations.{Among}
 
 -- an edge names states and an action that are there
 abbrev pub Inside : ℕ → ℕ → Edge → Type 0
@@ -10,6 +11,6 @@ Inside states actions e = (e.from < states) × (e.action < actions) × (e.to < s
 abbrev pub no_edge : Edge
 no_edge = record { from = 0; action = 0; to = 0 }
 
--- the edges in use are inside
-abbrev pub AllInside : ℕ → ℕ → List Edge → ℕ → Type 0
-AllInside states actions es n = (k : ℕ) → k < n → Inside states actions (slice_index_or es k no_edge)
+-- the edges of a list are inside
+abbrev pub AllInside : ℕ → ℕ → List Edge → Type 0
+AllInside states actions es = (e : Edge) → Among e es → Inside states actions e

@@ -1,6 +1,8 @@
 pub mod Refusals
+pub mod Sizes
 pub mod Relations
 pub mod Sets
 pub mod Edges
 pub mod Models
 pub mod Drafts
+pub mod RecordSets

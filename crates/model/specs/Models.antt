@@ -1,15 +1,16 @@
 -- A model as a reader sees it: its edges, and the propositions of its states.
-use Rattle.std.specs.Prelude.{ℕ, List, take, slice_index_or}
+use Rattle.std.specs.Prelude.{ℕ, List, slice_index_or}
 use Rattle.model.specs.declared.edge.Edge.{Edge}
 use Rattle.model.specs.declared.number_set.NumberSet.{NumberSet}
 use Rattle.model.specs.declared.state_record.StateRecord.{StateRecord}
 use Rattle.model.specs.declared.model.Model.{Model}
 use Rattle.model.specs.Relations.{Among}
 use Rattle.model.specs.Sets.{Has, nothing}
+use Rattle.model.specs.RecordSets.{records_of}
 
 -- the edges, in the order in which they were added
 abbrev pub edges_of : Model → List Edge
-edges_of m = take m.count m.edges
+edges_of m = records_of m.edges
 
 abbrev pub HasEdge : Model → Edge → Type 0
 HasEdge m e = Among e (edges_of m)

@@ -23,3 +23,7 @@ Exactly {X} P Q = (x : X) → (P x → Q x) × (Q x → P x)
 -- no two of the first n elements are equal
 abbrev pub Distinct : {X : Type 0} → X → List X → ℕ → Type 0
 Distinct d xs n = (i j : ℕ) → i < j → j < n → slice_index_or xs i d ≢ slice_index_or xs j d
+
+-- no two of the elements are equal
+abbrev pub IsDistinct : {X : Type 0} → List X → Type 0
+IsDistinct {X} xs = (i j : ℕ) (x : X) → i < j → slice_get xs i ≡ Some x → slice_get xs j ≡ Some x → ⊥

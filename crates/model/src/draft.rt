@@ -7,6 +7,7 @@ ghost use Rattle.model.specs.Drafts.{Bare, EdgeAdded, LabelAdded, CauseSize, Cau
 use crate::edge::Edge;
 use crate::model::Model;
 use crate::refusal::Refusal;
+use crate::size::Size;
 
 // Edges and propositions are given to a draft alone; sealing it gives the model.
 #[derive(Drop)]
@@ -20,7 +21,7 @@ impl Draft {
         ensures { Bare 1 1 result.model }
     {
         Draft {
-            model: Model::bare(1, 1),
+            model: Model::bare(Size::one(), Size::one()),
         }
     }
 
@@ -29,10 +30,7 @@ impl Draft {
         ensures cause { CauseSize states actions (refusal result) }
         ensures after { MatchResult result (λ _. Bare states actions self.new.model) (λ _. self.new ≡ self.old) }
     {
-        if states < 1 || states > 32 || actions < 1 || actions > 16 {
-            return Err(Refusal::OutOfRange);
-        }
-        self.model = Model::bare(states, actions);
+        self.model = Model::bare(states.try_into()?, actions.try_into()?);
         Ok(())
     }
 
@@ -47,14 +45,7 @@ impl Draft {
         if edge.action >= self.model.actions() {
             return Err(Refusal::NoSuchAction);
         }
-        if self.model.has_edge(edge) {
-            return Ok(());
-        }
-        if self.model.edges().len() >= 256 {
-            return Err(Refusal::TableFull);
-        }
-        self.model.push_edge(edge);
-        Ok(())
+        self.model.add_edge(edge)
     }
 
     // Adds a proposition to one state, and changes no other state's record.

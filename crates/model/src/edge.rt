@@ -1,8 +1,10 @@
 // Edges of a model, and steps along them.
-ghost use Rattle.std.specs.Prelude.{◌≡◌, Decides};
+ghost use Rattle.std.proofs.Common.{rules};
+
+use crate::record::Record;
 
 // By its action, an edge leads from one state to another or to the same.
-#[derive(Clone, Copy, PartialEq, Eq, Debug)]
+#[derive(Clone, Copy, Default, PartialEq, Eq, Debug)]
 pub struct Edge {
     pub from: u8,
     pub action: u8,
@@ -16,11 +18,8 @@ pub struct Step {
     pub state: u8,
 }
 
-impl Edge {
-    // Whether two edges agree in both states and the action.
-    pub fn same(self, other: Edge) -> bool
-        ensures { Decides result (self ≡ other) }
-    {
-        self.from == other.from && self.action == other.action && self.to == other.to
-    }
+impl Record for Edge {
+    ghost identical = { Prim.search rules };
+
+    ghost equal = { Prim.search rules };
 }

@@ -5,12 +5,18 @@ mod draft;
 mod edge;
 mod model;
 mod number_set;
+mod record;
+mod record_set;
 mod refusal;
+mod size;
 mod state_record;
 
 pub use draft::Draft;
 pub use edge::{Edge, Step};
 pub use model::Model;
 pub use number_set::NumberSet;
+pub use record::Record;
+pub use record_set::RecordSet;
 pub use refusal::Refusal;
+pub use size::Size;
 pub use state_record::StateRecord;

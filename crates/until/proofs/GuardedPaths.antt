@@ -3,19 +3,16 @@ use Rattle.std.proofs.Common.{◌≡◌, ℕ, suc, ◌<◌, List, [], ◌∷◌,
 use Rattle.model.specs.declared.edge.Edge.{Edge}
 use Rattle.model.specs.declared.edge.Step.{Step}
 use Rattle.model.specs.declared.model.Model.{Model}
-use Rattle.model.specs.Edges.{Inside, no_edge}
+use Rattle.model.specs.Edges.{Inside}
 use Rattle.model.specs.Models.{HasEdge}
 use Rattle.model.specs.Sets.{Has}
-use Rattle.model.proofs.Tables.{among_place}
 use Rattle.language.specs.Words.{Word}
 use Rattle.logic.specs.Paths.{edge, Chain, end, word, Before, Good, SomeGood}
 use Rattle.logic.specs.Facts.{Ground, Guarded}
 
 -- an edge of a model names states and an action that are there
 pub edge_inside : (m : Model) (e : Edge) → HasEdge m e → Inside m.states m.actions e
-edge_inside m e e∈ =
-    let (k, l, is) = among_place m.edges m.count no_edge e (omega (arith, m.few_edges, m.all_edges)) e∈ in
-    subst (λ x. Inside m.states m.actions x) is (m.inside k l)
+edge_inside m = m.inside
 
 -- the word of two paths, one after the other
 pub word_append : (m : Model) (p q : List Step) → word m (p ++ q) ≡ word m p ++ word m q

@@ -8,8 +8,7 @@ use Rattle.model.specs.declared.edge.Step.{Step}
 use Rattle.model.specs.declared.model.Model.{Model}
 use Rattle.model.specs.Models.{HasEdge, edges_of}
 use Rattle.model.specs.Relations.{Among}
-use Rattle.model.specs.Edges.{Inside, no_edge}
-use Rattle.model.proofs.Tables.{among_place}
+use Rattle.model.specs.Edges.{Inside}
 use Rattle.language.specs.Tables.{Table, step, run, Complete}
 use Rattle.logic.specs.Paths.{edge, Chain, end, word}
 use Rattle.logic.specs.Maximal.{Maximal, stopped, endless, Dead, first, Keeps, SomeKeeps}
@@ -60,9 +59,7 @@ place_same {Q} {x} {y} a b e =
 
 -- each edge of a model names states and an action that are there
 pub edge_inside : (model : Model) (e : Edge) → HasEdge model e → Inside model.states model.actions e
-edge_inside model e h =
-    let (k, l, is) = among_place model.edges model.count no_edge e (omega (arith, model.all_edges, model.few_edges)) h in
-    subst (Inside model.states model.actions) is (model.inside k l)
+edge_inside model = model.inside
 
 -- a complete table stays among its states
 pub step_below : (n : ℕ) (t : Table) → Complete n t → (q a : ℕ) → q < t.states → a < n → step t q a < t.states

@@ -2,7 +2,7 @@
 ghost use Rattle.kinds.specs.Automata.{AutomatonWords, told};
 ghost use Rattle.std.proofs.Common.{arith, inl, inr, sym, subst};
 ghost use Rattle.language.specs.Rules.{SymbolsBelow, ActionsBelow};
-ghost use Rattle.kinds.specs.Told.{told_cases, edge_inside, derives_run, run_from};
+ghost use Rattle.kinds.specs.Told.{told_cases, derives_run, run_from};
 ghost use Rattle.std.specs.Prelude.{suc, length};
 
 use crate::automaton::Automaton;
@@ -32,13 +32,13 @@ impl UntilLanguage for Automaton {
 
     ghost symbols_known = { λ m few short r there.
         elim (told_cases m r there) [
-          | inl e ↦ let i = edge_inside m e.0 e.1 in subst (SymbolsBelow m.states) (sym e.2) (i.0, i.2)
+          | inl e ↦ let i = m.inside e.0 e.1 in subst (SymbolsBelow m.states) (sym e.2) (i.0, i.2)
           | inr q ↦ subst (SymbolsBelow m.states) (sym q.3) q.1
         ] };
 
     ghost actions_known = { λ m few short r there.
         elim (told_cases m r there) [
-          | inl e ↦ let i = edge_inside m e.0 e.1 in subst (ActionsBelow m.actions) (sym e.2) i.1
+          | inl e ↦ let i = m.inside e.0 e.1 in subst (ActionsBelow m.actions) (sym e.2) i.1
           | inr q ↦ subst (ActionsBelow m.actions) (sym q.3) tt
         ] };
 
@@ -51,21 +51,18 @@ impl UntilLanguage for Automaton {
     }
 
     fn rule_count(&self) -> usize {
-        self.count + marked_count(&self.finals, self.states)
+        self.edges.len() + marked_count(&self.finals, self.states)
     }
 
     fn rule(&self, place: usize) -> Option<Rule> {
-        if place < self.count {
-            let edge = self.edges[place];
+        if let Some(edge) = self.edges.get(place) {
             return Some(Rule::Lead {
                 head: edge.from,
                 action: edge.action,
                 rest: edge.to,
             });
         }
-        match marked_at(&self.finals, self.states, place - self.count) {
-            Some(state) => Some(Rule::Empty { head: state }),
-            None => None,
-        }
+        let head = marked_at(&self.finals, self.states, place - self.edges.len())?;
+        Some(Rule::Empty { head })
     }
 }

@@ -6,34 +6,24 @@ ghost use Rattle.model.specs.Edges.{Inside};
 ghost use Rattle.kinds.specs.Automata.{edges_of, NoEdges, EdgeAdded, AfterEdge, FinalSet, CauseSize, CauseEdge, CauseFinal};
 
 use crate::automaton::Automaton;
-use model::{Edge, Refusal};
+use model::{Edge, RecordSet, Refusal, Size};
 
 impl Automaton {
     // One state, one action, no edge and no final state.
     pub fn new() -> Automaton
         ensures { NoEdges 1 1 result }
     {
-        Automaton::bare(1, 1)
+        Automaton::bare(Size::one(), Size::one())
     }
 
     // No edge and no final state.
-    fn bare(states: u8, actions: u8) -> Automaton
-        requires some_state { 1 ≤ states }
-        requires few_states { states ≤ 16 }
-        requires some_action { 1 ≤ actions }
-        requires few_actions { actions ≤ 16 }
-        ensures { NoEdges states actions result }
+    fn bare(states: Size<16>, actions: Size<16>) -> Automaton
+        ensures { NoEdges states.count actions.count result }
     {
-        let no_edge = Edge {
-            from: 0,
-            action: 0,
-            to: 0,
-        };
         Automaton {
-            states,
-            actions,
-            edges: [no_edge; 64],
-            count: 0,
+            states: states.get(),
+            actions: actions.get(),
+            edges: RecordSet::new(),
             finals: [false; 16],
         }
     }
@@ -43,10 +33,7 @@ impl Automaton {
         ensures cause { CauseSize states actions (refusal result) }
         ensures after { MatchResult result (λ _. NoEdges states actions self.new) (λ _. self.new ≡ self.old) }
     {
-        if states < 1 || states > 16 || actions < 1 || actions > 16 {
-            return Err(Refusal::OutOfRange);
-        }
-        *self = Automaton::bare(states, actions);
+        *self = Automaton::bare(states.try_into()?, actions.try_into()?);
         Ok(())
     }
 
@@ -54,30 +41,14 @@ impl Automaton {
     pub fn edges(&self) -> &[Edge]
         ensures { result.now ≡ edges_of self.now }
     {
-        &self.edges[0..self.count]
+        self.edges.as_slice()
     }
 
     // Whether the edge is there.
     pub fn has_edge(&self, edge: Edge) -> bool
         ensures { Decides result (Among edge (edges_of self.now)) }
     {
-        for known in self.edges() {
-            if known.same(edge) {
-                return true;
-            }
-        }
-        false
-    }
-
-    // Adds an edge that is not there.
-    fn push_edge(&mut self, edge: Edge)
-        requires room { self.old.count < 64 }
-        requires inside { Inside self.old.states self.old.actions edge }
-        requires absent { Among edge (edges_of self.old) → ⊥ }
-        ensures { EdgeAdded self.old self.new edge }
-    {
-        self.edges[self.count] = edge;
-        self.count += 1;
+        self.edges.contains(&edge)
     }
 
     // Adds an edge; one that is there already stays as it is.
@@ -91,14 +62,7 @@ impl Automaton {
         if edge.from >= self.states || edge.to >= self.states {
             return Err(Refusal::NoSuchSymbol);
         }
-        if self.has_edge(edge) {
-            return Ok(());
-        }
-        if self.count >= 64 {
-            return Err(Refusal::TableFull);
-        }
-        self.push_edge(edge);
-        Ok(())
+        self.edges.add(edge)
     }
 
     // Makes a state final.

@@ -70,13 +70,11 @@ impl UntilLanguage for Brackets {
             _ => {}
         }
         let others = self.others();
-        match marked_at(&others, self.actions, place - 4) {
-            Some(action) => Some(Rule::Lead {
-                head: 0,
-                action,
-                rest: 0,
-            }),
-            None => None,
-        }
+        let action = marked_at(&others, self.actions, place - 4)?;
+        Some(Rule::Lead {
+            head: 0,
+            action,
+            rest: 0,
+        })
     }
 }

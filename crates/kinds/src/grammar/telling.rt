@@ -1,7 +1,6 @@
 // What a grammar tells.
 ghost use Rattle.kinds.specs.Grammars.{rules_of, GrammarWords};
 ghost use Rattle.kinds.specs.Fitting.{symbols_from, actions_from};
-ghost use Rattle.kinds.specs.GrammarTellingLemmas.{each};
 
 use crate::grammar::Grammar;
 use language::{Alphabet, Rule, UntilLanguage};
@@ -27,9 +26,9 @@ impl UntilLanguage for Grammar {
 
     ghost some_symbol = { λ g few short. g.some_symbol };
 
-    ghost symbols_known = { λ g few short r m. symbols_from g.symbols g.actions r (each g r m) };
+    ghost symbols_known = { λ g few short r m. symbols_from g.symbols g.actions r (g.inside r m) };
 
-    ghost actions_known = { λ g few short r m. actions_from g.symbols g.actions r (each g r m) };
+    ghost actions_known = { λ g few short r m. actions_from g.symbols g.actions r (g.inside r m) };
 
     ghost derived = { λ g w few short m. m };
 
@@ -40,14 +39,10 @@ impl UntilLanguage for Grammar {
     }
 
     fn rule_count(&self) -> usize {
-        self.count
+        self.rules.len()
     }
 
     fn rule(&self, place: usize) -> Option<Rule> {
-        if place < self.count {
-            Some(self.rules[place])
-        } else {
-            None
-        }
+        self.rules.get(place)
     }
 }

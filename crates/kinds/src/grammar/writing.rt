@@ -8,29 +8,24 @@ ghost use Rattle.kinds.specs.Grammars.{rules_of, NoRules, RuleAdded, AfterRule, 
 use crate::grammar::Grammar;
 use crate::rules::{actions_below, symbols_below};
 use language::Rule;
-use model::Refusal;
+use model::{RecordSet, Refusal, Size};
 
 impl Grammar {
     // One symbol, one action and no rule.
     pub fn new() -> Grammar
         ensures { NoRules 1 1 result }
     {
-        Grammar::bare(1, 1)
+        Grammar::bare(Size::one(), Size::one())
     }
 
     // No rule.
-    fn bare(symbols: u8, actions: u8) -> Grammar
-        requires some_symbol { 1 ≤ symbols }
-        requires few_symbols { symbols ≤ 16 }
-        requires some_action { 1 ≤ actions }
-        requires few_actions { actions ≤ 16 }
-        ensures { NoRules symbols actions result }
+    fn bare(symbols: Size<16>, actions: Size<16>) -> Grammar
+        ensures { NoRules symbols.count actions.count result }
     {
         Grammar {
-            symbols,
-            actions,
-            rules: [Rule::Empty { head: 0 }; 128],
-            count: 0,
+            symbols: symbols.get(),
+            actions: actions.get(),
+            rules: RecordSet::new(),
         }
     }
 
@@ -39,10 +34,7 @@ impl Grammar {
         ensures cause { CauseSize symbols actions (refusal result) }
         ensures after { MatchResult result (λ _. NoRules symbols actions self.new) (λ _. self.new ≡ self.old) }
     {
-        if symbols < 1 || symbols > 16 || actions < 1 || actions > 16 {
-            return Err(Refusal::OutOfRange);
-        }
-        *self = Grammar::bare(symbols, actions);
+        *self = Grammar::bare(symbols.try_into()?, actions.try_into()?);
         Ok(())
     }
 
@@ -50,31 +42,14 @@ impl Grammar {
     pub fn rules(&self) -> &[Rule]
         ensures { result.now ≡ rules_of self.now }
     {
-        &self.rules[0..self.count]
+        self.rules.as_slice()
     }
 
     // Whether the rule is there.
     pub fn has_rule(&self, rule: Rule) -> bool
         ensures { Decides result (Among rule (rules_of self.now)) }
     {
-        for known in self.rules() {
-            if known.same(rule) {
-                return true;
-            }
-        }
-        false
-    }
-
-    // Adds a rule that is not there.
-    fn push_rule(&mut self, rule: Rule)
-        requires room { self.old.count < 128 }
-        requires symbols { SymbolsBelow self.old.symbols rule }
-        requires actions { ActionsBelow self.old.actions rule }
-        requires absent { Among rule (rules_of self.old) → ⊥ }
-        ensures { RuleAdded self.old self.new rule }
-    {
-        self.rules[self.count] = rule;
-        self.count += 1;
+        self.rules.contains(&rule)
     }
 
     // Adds a rule; one that is there already stays as it is.
@@ -88,13 +63,6 @@ impl Grammar {
         if !symbols_below(rule, self.symbols) {
             return Err(Refusal::NoSuchSymbol);
         }
-        if self.has_rule(rule) {
-            return Ok(());
-        }
-        if self.count >= 128 {
-            return Err(Refusal::TableFull);
-        }
-        self.push_rule(rule);
-        Ok(())
+        self.rules.add(rule)
     }
 }

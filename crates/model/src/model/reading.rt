@@ -24,18 +24,13 @@ impl Model {
     pub fn edges(&self) -> &[Edge]
         ensures { result.now ≡ edges_of self.now }
     {
-        &self.edges[0..self.count]
+        self.edges.as_slice()
     }
 
     // Whether the edge is there.
     pub fn has_edge(&self, edge: Edge) -> bool
         ensures { Decides result (HasEdge self.now edge) }
     {
-        for known in self.edges() {
-            if known.same(edge) {
-                return true;
-            }
-        }
-        false
+        self.edges.contains(&edge)
     }
 }

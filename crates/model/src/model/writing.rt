@@ -1,45 +1,38 @@
 // How a draft writes its model; outside this crate a model does not change.
-ghost use Rattle.std.specs.Prelude.{◌≡◌, ℕ, ◌<◌, ◌≤◌};
+ghost use Rattle.std.specs.Prelude.{◌≡◌, ◌<◌, ◌≤◌, MatchResult};
+ghost use Rattle.model.specs.Refusals.{refusal};
+ghost use Rattle.model.specs.RecordSets.{CauseAdd};
 ghost use Rattle.model.specs.Edges.{Inside};
-ghost use Rattle.model.specs.Models.{HasEdge};
-ghost use Rattle.model.specs.Drafts.{Bare, EdgeAdded, LabelAdded};
+ghost use Rattle.model.specs.Models.{edges_of};
+ghost use Rattle.model.specs.Drafts.{Bare, AfterEdge, LabelAdded};
 
 use crate::edge::Edge;
 use crate::model::Model;
+use crate::record_set::RecordSet;
+use crate::refusal::Refusal;
+use crate::size::Size;
 use crate::state_record::StateRecord;
 
 impl Model {
     // A model with no edge and no proposition.
-    pub(crate) fn bare(states: u8, actions: u8) -> Model
-        requires some_state { 1 ≤ states }
-        requires few_states { states ≤ 32 }
-        requires some_action { 1 ≤ actions }
-        requires few_actions { actions ≤ 16 }
-        ensures { Bare states actions result }
+    pub(crate) fn bare(states: Size<32>, actions: Size<16>) -> Model
+        ensures { Bare states.count actions.count result }
     {
-        let no_edge = Edge {
-            from: 0,
-            action: 0,
-            to: 0,
-        };
         Model {
-            states,
-            actions,
+            states: states.get(),
+            actions: actions.get(),
             records: [StateRecord::blank(); 32],
-            edges: [no_edge; 256],
-            count: 0,
+            edges: RecordSet::new(),
         }
     }
 
-    // Adds an edge that is not there.
-    pub(crate) fn push_edge(&mut self, edge: Edge)
-        requires room { self.old.count < 256 }
-        requires inside { Inside self.old.states self.old.actions edge }
-        requires absent { HasEdge self.old edge → ⊥ }
-        ensures { EdgeAdded self.old self.new edge }
+    // Adds an edge that is inside; one that is there already stays as it is.
+    pub(crate) fn add_edge(&mut self, edge: Edge) -> Result<(), Refusal>
+        requires { Inside self.old.states self.old.actions edge }
+        ensures cause { CauseAdd 256 (edges_of self.old) edge (refusal result) }
+        ensures after { MatchResult result (λ _. AfterEdge self.old self.new edge) (λ _. self.new ≡ self.old) }
     {
-        self.edges[self.count] = edge;
-        self.count += 1;
+        self.edges.add(edge)
     }
 
     // Adds a proposition to one state, by lending its record.
