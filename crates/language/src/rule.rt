@@ -1,4 +1,4 @@
-ghost use Rattle.std.specs.Prelude.{◌≡◌, Decides};
+ghost use Rattle.std.specs.Prelude.{◌≡◌};
 ghost use Rattle.language.specs.Rules.{head_of};
 ghost use Rattle.std.proofs.Common.{rules};
 
@@ -31,13 +31,6 @@ impl Rule {
             | Rule::Same { head, .. }
             | Rule::Pair { head, .. } => head,
         }
-    }
-
-    // Whether two rules are of one form and agree in every symbol and action.
-    pub fn same(self, other: Rule) -> bool
-        ensures { Decides result (self ≡ other) }
-    {
-        self == other
     }
 }
 
