@@ -1,7 +1,7 @@
 -- Step watchers: their words, their table, and when one is refused.
 use Rattle.std.specs.Prelude.{◌≡◌, ℕ, ◌+◌, ◌%◌, ◌≤◌, cond, ◌&&◌, ◌⊎◌, length, Some, None, Option, ◌==◌, nat_lt}
 use Rattle.model.specs.Refusals.{Refuse, Accept}
-use Rattle.model.specs.Drafts.{Outside}
+use Rattle.model.specs.Sizes.{Outside}
 use Rattle.language.specs.Words.{Word, Known}
 use Rattle.language.specs.Tables.{Table}
 use Rattle.watchers.specs.declared.step_watcher.StepWatcher.{StepWatcher}

@@ -1,7 +1,7 @@
 -- Table watchers: their words, their table, and what the calls do.
 use Rattle.std.specs.Prelude.{◌≡◌, ℕ, ◌+◌, ◌*◌, ◌<◌, ◌≤◌, Bool, true, false, cond, ◌&&◌, ◌≢◌, ◌⊎◌, [], ◌∷◌, Some, None, Option, nat_lt, slice_index, slice_index_or}
 use Rattle.model.specs.Refusals.{Refuse, Accept}
-use Rattle.model.specs.Drafts.{Outside}
+use Rattle.model.specs.Sizes.{Outside}
 use Rattle.language.specs.Words.{Word, Known}
 use Rattle.language.specs.Tables.{Table}
 use Rattle.watchers.specs.declared.table_watcher.TableWatcher.{TableWatcher}

@@ -4,7 +4,7 @@ ghost use Rattle.model.specs.Refusals.{refusal};
 ghost use Rattle.watchers.specs.Steps.{CauseSteps, StepsMade};
 
 use crate::step_watcher::StepWatcher;
-use model::Refusal;
+use model::{Refusal, Size};
 
 impl StepWatcher {
     // A watcher over the given number of actions; its state is the number of steps so far, modulo `modulus`.
@@ -12,16 +12,15 @@ impl StepWatcher {
         ensures cause { CauseSteps modulus remainder actions (refusal result) }
         ensures made { IfOk result (StepsMade modulus remainder actions) }
     {
-        if modulus < 1 || modulus > 32 || actions < 1 || actions > 16 {
-            return Err(Refusal::OutOfRange);
-        }
+        let states: Size<32> = modulus.try_into()?;
+        let actions: Size<16> = actions.try_into()?;
         if remainder >= modulus {
             return Err(Refusal::Contradictory);
         }
         Ok(StepWatcher {
-            modulus,
+            modulus: states.get(),
             remainder,
-            actions,
+            actions: actions.get(),
         })
     }
 }

@@ -4,27 +4,23 @@ ghost use Rattle.model.specs.Refusals.{refusal};
 ghost use Rattle.watchers.specs.TableWatchers.{Plain, NextSet, MarkSet, CauseSize, CauseNext, CauseMark};
 
 use crate::table_watcher::TableWatcher;
-use model::Refusal;
+use model::{Refusal, Size};
 
 impl TableWatcher {
     // One state and one action.
     pub fn new() -> TableWatcher
         ensures { Plain 1 1 result }
     {
-        TableWatcher::plain(1, 1)
+        TableWatcher::plain(Size::one(), Size::one())
     }
 
     // Every step leads to state 0, and no state is marked.
-    fn plain(states: u8, actions: u8) -> TableWatcher
-        requires some_state { 1 ≤ states }
-        requires few_states { states ≤ 32 }
-        requires some_action { 1 ≤ actions }
-        requires few_actions { actions ≤ 16 }
-        ensures { Plain states actions result }
+    fn plain(states: Size<32>, actions: Size<16>) -> TableWatcher
+        ensures { Plain states.count actions.count result }
     {
         TableWatcher {
-            states,
-            actions,
+            states: states.get(),
+            actions: actions.get(),
             nexts: [0; 512],
             marks: [false; 32],
         }
@@ -35,10 +31,7 @@ impl TableWatcher {
         ensures cause { CauseSize states actions (refusal result) }
         ensures after { MatchResult result (λ _. Plain states actions self.new) (λ _. self.new ≡ self.old) }
     {
-        if states < 1 || states > 32 || actions < 1 || actions > 16 {
-            return Err(Refusal::OutOfRange);
-        }
-        *self = TableWatcher::plain(states, actions);
+        *self = TableWatcher::plain(states.try_into()?, actions.try_into()?);
         Ok(())
     }
 
