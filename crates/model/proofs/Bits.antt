@@ -1,5 +1,5 @@
 -- Membership in a union, in a set of one and in none.
-use Rattle.std.proofs.Common.{◌≡◌, ℕ, zero, suc, ◌+◌, ◌-◌, ◌*◌, ◌/◌, ◌%◌, ◌^◌, ◌<◌, ◌≤◌, min, eqb, ◌⊎◌, Decides, sym, refl, ap, ◌∙◌, subst, inl, inr, mul_comm, add-mul, arith}
+use Rattle.std.proofs.Common.{◌≡◌, ℕ, zero, suc, ◌+◌, ◌-◌, ◌*◌, ◌/◌, ◌%◌, ◌^◌, ◌<◌, ◌≤◌, ◌≢◌, min, eqb, ◌⊎◌, Decides, sym, refl, ap, ◌∙◌, subst, inl, inr, mul_comm, add-mul, arith}
 use native.Mathlib.Decide.{dec_lt, ℕ_discrete}
 use native.Mathlib.Nat.{div-eq_of_lt, zero-div, div_self, two-pow-succ}
 use lib.Bits.{bit_or, bit_and, bit_xor, differ, or_step, or_shr, and_step, and_shr, xor_step, xor_shr, and_mask, shifted_even, or_shifted_r}
@@ -7,7 +7,8 @@ use Rattle.model.proofs.Joins.{joined_like}
 use Rattle.std.proofs.lemmas.Nat.{pow_pos, pow-add, pow_below, shl-shr, shr_high, one_shl, leading_top}
 use lib.Count.{count_leading_zeros}
 use Rattle.std.proofs.lemmas.Bool.Decides.{Decides-eqb}
-use Rattle.model.specs.Sets.{Bit}
+use Rattle.model.specs.Sets.{Bit, nothing}
+use Rattle.model.specs.declared.number_set.NumberSet.{NumberSet}
 use Rattle.model.specs.Relations.{Joined, Exactly}
 
 pub bit_or_only : (a b t : ℕ) → Bit (bit_or a b) t → Bit a t ⊎ Bit b t
@@ -133,3 +134,11 @@ ones_exact n t = (λ h. bit_below n (2 ^ n - 1) t (omega (arith, pow_pos n)) h, 
 
 pub shl_exact : (n w : ℕ) → n < w → Exactly (Bit ((1 * 2 ^ n) % 2 ^ w)) (λ t. t ≡ n)
 shl_exact n w l = one_exact _ n (one_shl n w l)
+
+-- a number that is not 0 has a bit
+pub some_bit : (a : ℕ) → a ≢ 0 → a < 2 ^ 32 → (t : ℕ) × Bit a t
+some_bit a some fits = (31 - count_leading_zeros 32 a, (top_taken a (omega arith) fits).1.puts _ refl)
+
+-- a set with no bit is the empty one
+pub empty_bits : (x : NumberSet) → x.bits ≡ 0 → x ≡ nothing
+empty_bits x e = let f : ℕ → NumberSet = λ b. record { bits = b } in ap f e

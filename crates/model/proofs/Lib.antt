@@ -2,3 +2,5 @@ pub mod Bits
 pub mod Joins
 pub mod Tables
 pub mod RecordSets
+pub mod TripleRows
+pub mod TripleSizes

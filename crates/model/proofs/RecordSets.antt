@@ -1,6 +1,5 @@
 -- What one more record does to a set of records.
-use Rattle.std.proofs.Common.{◌≡◌, ℕ, zero, suc, ◌⊎◌, List, [], ◌∷◌, ◌++◌, Some, None, Ok, Err, Result, MatchResult, ap, subst, sym, inl, inr, ⊎_elim}
-use Rattle.std.specs.List.{slice_get}
+use Rattle.std.proofs.Common.{◌≡◌, ℕ, zero, suc, ◌⊎◌, List, [], ◌∷◌, ◌++◌, Ok, Err, Result, MatchResult, subst, sym, inl, inr, ⊎_elim}
 use Rattle.model.specs.declared.refusal.Refusal.{Refusal}
 use Rattle.model.specs.declared.record_set.RecordSet.{RecordSet}
 use Rattle.model.specs.Relations.{Among}

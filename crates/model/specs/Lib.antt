@@ -6,3 +6,4 @@ pub mod Edges
 pub mod Models
 pub mod Drafts
 pub mod RecordSets
+pub mod Triples

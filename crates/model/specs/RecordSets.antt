@@ -1,7 +1,5 @@
 -- Sets of records, as lists in the order in which the records were added.
-use Rattle.std.specs.Prelude.{◌≡◌, ℕ, ◌<◌, ◌≤◌, ◌⊎◌, List, [], ◌∷◌, ◌++◌, length, Some, Option}
-use Rattle.std.specs.List.{slice_get}
-use Rattle.arrayvec.specs.ArrayVec.{ArrayVec}
+use Rattle.std.specs.Prelude.{◌≡◌, ℕ, ◌≤◌, ◌⊎◌, List, [], ◌∷◌, ◌++◌, length, Option}
 use Rattle.model.specs.declared.record_set.RecordSet.{RecordSet}
 use Rattle.model.specs.Refusals.{Refuse, Accept}
 use Rattle.model.specs.Relations.{Among}

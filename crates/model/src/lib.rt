@@ -10,6 +10,7 @@ mod record_set;
 mod refusal;
 mod size;
 mod state_record;
+mod triple_set;
 
 pub use draft::Draft;
 pub use edge::{Edge, Step};
@@ -20,3 +21,4 @@ pub use record_set::RecordSet;
 pub use refusal::Refusal;
 pub use size::Size;
 pub use state_record::StateRecord;
+pub use triple_set::TripleSet;

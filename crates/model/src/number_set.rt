@@ -1,5 +1,5 @@
 // A set of numbers below 32: of states, of propositions, or of symbols.
-ghost use Rattle.std.specs.Prelude.{◌≡◌, ℕ, ◌<◌, ◌≤◌, Decides, MatchOption, count_ones};
+ghost use Rattle.std.specs.Prelude.{◌≡◌, ℕ, ◌<◌, ◌≤◌, false, Decides, MatchOption, count_ones};
 ghost use Rattle.model.specs.Relations.{Joined, Exactly};
 ghost use Rattle.model.specs.Sets.{Has, nothing};
 
@@ -57,6 +57,14 @@ impl NumberSet {
         (self.bits >> n) & 1 == 1
     }
 
+    // Whether the set has no number.
+    pub fn is_empty(self) -> bool
+        ensures none { Decides result (self ≡ nothing) }
+        ensures some { result ≡ false → (t : ℕ) × Has self t }
+    {
+        self.bits == 0
+    }
+
     // How many numbers the set has.
     pub fn count(self) -> u32
         ensures { (result ≡ count_ones self.bits) × (result ≤ 32) }
@@ -93,7 +101,7 @@ impl NumberSet {
     pub fn take_last(&mut self) -> Option<u8>
         ensures { MatchOption result ((self.old ≡ nothing) × (self.new ≡ nothing)) (λ t. (t < 32) × Joined (Has self.new) (Has self.old) (λ u. u ≡ t) × (self.new.bits < self.old.bits) × ((u : ℕ) → Has self.new u → u < t)) }
     {
-        if self.bits == 0 {
+        if self.is_empty() {
             return None;
         }
         let last = 31 - self.bits.leading_zeros();

@@ -1,0 +1,126 @@
+// Sets of triples of numbers.
+ghost use Rattle.std.specs.Prelude.{◌≡◌, ℕ, ◌<◌, ◌≤◌, ◌≢◌, length};
+ghost use Rattle.model.specs.Relations.{Joined, Exactly};
+ghost use Rattle.model.specs.Sets.{Has, nothing};
+ghost use Rattle.model.specs.Triples.{Triple, row_of, Holds, size, InRow, Through, Lacking, TriplesBelow};
+
+use crate::number_set::NumberSet;
+
+// Triples with a first number below 16 and the others below 32: for each first and second number the set of the third.
+// Their methods ask for such numbers.
+#[derive(Clone, Copy)]
+pub struct TripleSet {
+    rows: [NumberSet; 512],
+    ghost long: { length rows ≡ 512 },
+}
+
+impl TripleSet {
+    // The set with no triple.
+    pub fn empty() -> TripleSet
+        ensures none { (p : Triple) → Holds result.rows p → ⊥ }
+        ensures size { size result.rows 512 ≡ 0 }
+    {
+        TripleSet {
+            rows: [NumberSet::empty(); 512],
+        }
+    }
+
+    // The third numbers of a first and a second.
+    pub fn row(&self, first: u8, second: u8) -> NumberSet
+        requires first { first < 16 }
+        requires second { second < 32 }
+        ensures { result ≡ row_of self.now.rows first second }
+    {
+        self.rows[first as usize * 32 + second as usize]
+    }
+
+    // Adds the triples of a first and a second number with each third of `more`.
+    pub fn add(&mut self, first: u8, second: u8, more: NumberSet)
+        requires first { first < 16 }
+        requires second { second < 32 }
+        ensures { Joined (Holds self.old.rows) (Holds self.new.rows) (InRow first second (Has more)) }
+    {
+        let row = self.row(first, second).union(more);
+        self.rows[first as usize * 32 + second as usize] = row;
+    }
+
+    // The second numbers that stand with a first.
+    pub fn seconds(&self, first: u8) -> NumberSet
+        requires { first < 16 }
+        ensures { Exactly (Has result) (λ s. (s < 32) × (row_of self.now.rows first s ≢ nothing)) }
+    {
+        let mut found = NumberSet::empty();
+        for second in 0..32u8 {
+            if !self.row(first, second).is_empty() {
+                found = found.union(NumberSet::single(second));
+            }
+        }
+        found
+    }
+
+    // The first numbers that have a triple.
+    pub fn firsts(&self) -> NumberSet
+        ensures { Exactly (Has result) (λ x. (x < 16) × (s : ℕ) × (s < 32) × (row_of self.now.rows x s ≢ nothing)) }
+    {
+        let mut found = NumberSet::empty();
+        for first in 0..16u8 {
+            if !self.seconds(first).is_empty() {
+                found = found.union(NumberSet::single(first));
+            }
+        }
+        found
+    }
+
+    // Adds to `reached` the third numbers that stand with a first and some second of `from`; it stops once every number
+    // below the bound is reached.
+    pub fn through(&self, reached: NumberSet, from: NumberSet, first: u8, bound: u8) -> NumberSet
+        requires first { first < 16 }
+        requires bound { bound ≤ 32 }
+        requires below { TriplesBelow 16 bound (Holds self.now.rows) }
+        ensures { Joined (Has reached) (Has result) (Through (Has from) (Holds self.now.rows) first) }
+    {
+        let every = NumberSet::below(bound);
+        let mut found = reached;
+        let mut rest = from;
+        while found != every {
+            match rest.take_last() {
+                Some(second) => found = found.union(self.row(first, second)),
+                None => return found,
+            }
+        }
+        found
+    }
+
+    // How many triples there are.
+    pub fn count(&self) -> u32
+        ensures size { result ≡ size self.now.rows 512 }
+        ensures most { result ≤ 16384 }
+    {
+        let mut total = 0u32;
+        for row in &self.rows {
+            total += row.count();
+        }
+        total
+    }
+
+    // Adds every triple of `other`. The rows go by place, here and in `without`: what the calls of a closure in
+    // `array::from_fn` gave could not be tied to the rows that it captures.
+    pub fn include(&mut self, other: &TripleSet)
+        ensures { Joined (Holds self.old.rows) (Holds self.new.rows) (Holds other.now.rows) }
+    {
+        for place in 0..512usize {
+            self.rows[place] = self.rows[place].union(other.rows[place]);
+        }
+    }
+
+    // The triples that `other` lacks.
+    pub fn without(&self, other: &TripleSet) -> TripleSet
+        ensures { Exactly (Holds result.rows) (Lacking (Holds self.now.rows) (Holds other.now.rows)) }
+    {
+        let mut rows = self.rows;
+        for place in 0..512usize {
+            rows[place] = self.rows[place].without(other.rows[place]);
+        }
+        TripleSet { rows }
+    }
+}
