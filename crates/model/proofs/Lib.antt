@@ -4,3 +4,4 @@ pub mod Tables
 pub mod RecordSets
 pub mod TripleRows
 pub mod TripleSizes
+pub mod Passing

@@ -1,5 +1,6 @@
 -- A set of triples that is filled row by row.
-use Rattle.std.proofs.Common.{◌≡◌, ℕ, ◌+◌, ◌*◌, ◌<◌, ◌≤◌, ◌⊎◌, List, length, get_or, set, sym, refl, ap, ◌∙◌, subst, inl, inr, ⊎_elim, arith, get_or-set_other, get_or-set_same}
+use Rattle.std.proofs.lemmas.Bool.{false≢true}
+use Rattle.std.proofs.Common.{Bool, true, false, not, Decides, ◌≢◌, ◌≡◌, ℕ, ◌+◌, ◌*◌, ◌<◌, ◌≤◌, ◌⊎◌, List, length, get_or, set, sym, refl, ap, ◌∙◌, subst, inl, inr, ⊎_elim, arith, get_or-set_other, get_or-set_same}
 use native.Mathlib.Decide.{dec_lt, ℕ_discrete}
 use Rattle.model.specs.declared.number_set.NumberSet.{NumberSet}
 use Rattle.model.specs.Relations.{Joined, Exactly}
@@ -81,3 +82,9 @@ through_more rows rest rest' reached reached' row symbol state l is taken more j
   puts = λ t m. j.puts t (m.0, taken.keeps m.0 m.1, m.2);
   only = λ t m. ⊎_elim (λ h. inl (more.keeps t h)) (λ d. ⊎_elim (λ r. inr (d.0, r, d.2)) (λ e. inl (more.puts t (subst (λ x. Has x t) (sym is) (subst (λ u. Holds rows (symbol, u, t)) e d.2).1))) (taken.only d.0 d.1)) (j.only t m);
 }
+
+-- a first number has a triple where its set of second numbers is not empty
+pub first_decided : (rows : List NumberSet) (x : ℕ) (row : NumberSet) (empty : Bool) → Exactly (Has row) (λ s. (s < 32) × (row_of rows x s ≢ nothing)) → Decides empty (row ≡ nothing) → (empty ≡ false → (t : ℕ) × Has row t)
+    → Decides (not empty) ((s : ℕ) × (s < 32) × (row_of rows x s ≢ nothing))
+first_decided rows x row true is none some = (λ never. absurd (false≢true never), λ (s, l, n). absurd (has_none row s (none.0 refl) ((is s).1 (l, n))))
+first_decided rows x row false is none some = (λ _. let (s, h) = some refl in (s, ((is s).0 h).0, ((is s).0 h).1), λ _. refl)

@@ -49,26 +49,14 @@ impl TripleSet {
         requires { first < 16 }
         ensures { Exactly (Has result) (λ s. (s < 32) × (row_of self.now.rows first s ≢ nothing)) }
     {
-        let mut found = NumberSet::empty();
-        for second in 0..32u8 {
-            if !self.row(first, second).is_empty() {
-                found = found.union(NumberSet::single(second));
-            }
-        }
-        found
+        NumberSet::passing(32, |second| !self.row(first, second).is_empty())
     }
 
     // The first numbers that have a triple.
     pub fn firsts(&self) -> NumberSet
         ensures { Exactly (Has result) (λ x. (x < 16) × (s : ℕ) × (s < 32) × (row_of self.now.rows x s ≢ nothing)) }
     {
-        let mut found = NumberSet::empty();
-        for first in 0..16u8 {
-            if !self.seconds(first).is_empty() {
-                found = found.union(NumberSet::single(first));
-            }
-        }
-        found
+        NumberSet::passing(16, |first| !self.seconds(first).is_empty())
     }
 
     // Adds to `reached` the third numbers that stand with a first and some second of `from`; it stops once every number

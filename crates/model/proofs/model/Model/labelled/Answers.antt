@@ -1,16 +1,6 @@
-use Rattle.std.proofs.Common.{refl, subst, arith}
-use Rattle.model.specs.Sets.{Has}
-use Rattle.model.proofs.Bits.{bit_none}
-use Rattle.model.proofs.Joins.{joined_none, joined_more, joined_exactly, joined_exact}
+use Rattle.std.proofs.Common.{rules}
+use Rattle.model.proofs.Passing.{passed_exactly}
 use Rattle.model.proofs.model.Model.labelled.Goals as goal
 
-pub loop-s-init : goal.loop-s-init
-loop-s-init c = joined_none _
-
-pub loop-s-preserved : goal.loop-s-preserved
-loop-s-preserved c = joined_more _ _ c.loop-s.invariant (joined_exactly c.labelled_at.ensures c.union-found.ensures)
-
 pub returns : goal.returns
-returns c = joined_exact _ _ (λ t h. bit_none t (subst (λ x. Has x t) c.empty-found.ensures h))
-    (λ t m. (let e = m.2.0 in let l = m.1 in omega (arith, c.loop-s.auto, c.loop-s-test.false), m.2.1))
-    (λ t m. (t, omega (arith, m.0, c.loop-s-test.false), (refl, m.1))) c.loop-s.invariant
+returns c = passed_exactly c.passing.result _ c.passing.ensures.below c.passing.ensures.tested (λ t b l post. search rules)
