@@ -1,42 +1,46 @@
 // The languages that the cases are about.
-ghost use Rattle.std.specs.Prelude.{◌≡◌, false, List, [], length, None as NoState};
+ghost use Rattle.std.specs.Prelude.{false, [], None as NoState};
 ghost use Rattle.std.proofs.Common.{arith};
 
 use kinds::{Automaton, Grammar};
 use language::{Alphabet, Rule, UntilLanguage, Watcher};
 use model::Refusal;
 
-// Adds one rule.
-fn put(grammar: &mut Grammar, rule: Rule) -> Result<(), Refusal> {
-    grammar.add_rule(rule)
+fn letter(head: u8, action: u8) -> Rule {
+    Rule::Letter { head, action }
 }
 
-// The rules, one after another.
-pub fn grammar(symbols: u8, actions: u8, rules: &[Rule]) -> Result<Grammar, Refusal> {
+fn lead(head: u8, action: u8, rest: u8) -> Rule {
+    Rule::Lead { head, action, rest }
+}
+
+fn same(head: u8, body: u8) -> Rule {
+    Rule::Same { head, body }
+}
+
+fn pair(head: u8, left: u8, right: u8) -> Rule {
+    Rule::Pair { head, left, right }
+}
+
+// Adds each of the rules.
+fn add_all(grammar: &mut Grammar, rules: &[Rule]) -> Result<(), Refusal> {
+    for rule in rules {
+        grammar.add_rule(*rule)?;
+    }
+    Ok(())
+}
+
+// A grammar of these rules.
+fn grammar(symbols: u8, actions: u8, rules: &[Rule]) -> Result<Grammar, Refusal> {
     let mut grammar = Grammar::new();
     grammar.size(symbols, actions)?;
-    for rule in rules {
-        put(&mut grammar, *rule)?;
-    }
+    add_all(&mut grammar, rules)?;
     Ok(grammar)
 }
 
 // Action 0 some times, and then action 1 as many times.
 pub fn ab() -> Result<Grammar, Refusal> {
-    let rules = [
-        Rule::Lead {
-            head: 0,
-            action: 0,
-            rest: 1,
-        },
-        Rule::Pair {
-            head: 1,
-            left: 0,
-            right: 2,
-        },
-        Rule::Letter { head: 1, action: 1 },
-        Rule::Letter { head: 2, action: 1 },
-    ];
+    let rules = [lead(0, 0, 1), pair(1, 0, 2), letter(1, 1), letter(2, 1)];
     grammar(3, 2, &rules)
 }
 
@@ -50,36 +54,16 @@ pub fn nothing_said() -> Result<Automaton, Refusal> {
 
 // One word of 2^doublings letters: each symbol is twice the next.
 pub fn doubling(doublings: u8, first: u8) -> Result<Grammar, Refusal> {
+    let last = first.saturating_add(doublings);
     let mut grammar = Grammar::new();
-    grammar.size(first.saturating_add(doublings).saturating_add(1), 1)?;
-    for k in 0..doublings {
-        let head = first.saturating_add(k);
+    grammar.size(last.saturating_add(1), 1)?;
+    for head in first..last {
         let next = head.saturating_add(1);
-        put(
-            &mut grammar,
-            Rule::Pair {
-                head,
-                left: next,
-                right: next,
-            },
-        )?;
+        grammar.add_rule(pair(head, next, next))?;
     }
-    put(
-        &mut grammar,
-        Rule::Letter {
-            head: first.saturating_add(doublings),
-            action: 0,
-        },
-    )?;
+    grammar.add_rule(letter(last, 0))?;
     if first > 0 {
-        put(
-            &mut grammar,
-            Rule::Lead {
-                head: 0,
-                action: 0,
-                rest: 1,
-            },
-        )?;
+        grammar.add_rule(lead(0, 0, 1))?;
     }
     Ok(grammar)
 }
@@ -87,26 +71,14 @@ pub fn doubling(doublings: u8, first: u8) -> Result<Grammar, Refusal> {
 // Words of action 0 in any number, by rules that go in circles: same rules in a ring, and pairs with an empty part.
 pub fn circles() -> Result<Grammar, Refusal> {
     let rules = [
-        Rule::Same { head: 0, body: 1 },
-        Rule::Same { head: 1, body: 2 },
-        Rule::Same { head: 2, body: 0 },
-        Rule::Pair {
-            head: 1,
-            left: 1,
-            right: 3,
-        },
-        Rule::Pair {
-            head: 2,
-            left: 3,
-            right: 2,
-        },
+        same(0, 1),
+        same(1, 2),
+        same(2, 0),
+        pair(1, 1, 3),
+        pair(2, 3, 2),
         Rule::Empty { head: 3 },
-        Rule::Lead {
-            head: 2,
-            action: 0,
-            rest: 0,
-        },
-        Rule::Letter { head: 2, action: 1 },
+        lead(2, 0, 0),
+        letter(2, 1),
     ];
     grammar(4, 2, &rules)
 }
@@ -114,18 +86,10 @@ pub fn circles() -> Result<Grammar, Refusal> {
 // The empty word alone, by rules that go in circles.
 pub fn empty_circles() -> Result<Grammar, Refusal> {
     let rules = [
-        Rule::Pair {
-            head: 0,
-            left: 0,
-            right: 1,
-        },
-        Rule::Pair {
-            head: 0,
-            left: 1,
-            right: 0,
-        },
-        Rule::Same { head: 0, body: 1 },
-        Rule::Same { head: 1, body: 0 },
+        pair(0, 0, 1),
+        pair(0, 1, 0),
+        same(0, 1),
+        same(1, 0),
         Rule::Empty { head: 1 },
     ];
     grammar(2, 2, &rules)
@@ -135,78 +99,28 @@ pub fn empty_circles() -> Result<Grammar, Refusal> {
 pub fn crowded() -> Result<Grammar, Refusal> {
     let mut grammar = Grammar::new();
     grammar.size(16, 8)?;
-    for head in 0..16u8 {
-        put(
-            &mut grammar,
-            Rule::Letter {
-                head,
-                action: head % 8,
-            },
-        )?;
-        put(
-            &mut grammar,
-            Rule::Lead {
-                head,
-                action: (head + 1) % 8,
-                rest: (head + 3) % 16,
-            },
-        )?;
-        put(
-            &mut grammar,
-            Rule::Lead {
-                head,
-                action: (head + 5) % 8,
-                rest: (head + 7) % 16,
-            },
-        )?;
-        put(
-            &mut grammar,
-            Rule::Lead {
-                head,
-                action: (head + 3) % 8,
-                rest: (head + 13) % 16,
-            },
-        )?;
-        put(
-            &mut grammar,
-            Rule::Same {
-                head,
-                body: (head + 1) % 16,
-            },
-        )?;
-        put(
-            &mut grammar,
-            Rule::Pair {
-                head,
-                left: (head + 2) % 16,
-                right: (head + 5) % 16,
-            },
-        )?;
-        put(
-            &mut grammar,
-            Rule::Pair {
-                head,
-                left: (head + 9) % 16,
-                right: (head + 4) % 16,
-            },
-        )?;
-        put(
-            &mut grammar,
-            Rule::Pair {
-                head,
-                left: (head + 11) % 16,
-                right: head,
-            },
-        )?;
+    for head in 0..16 {
+        let rules = [
+            letter(head, head % 8),
+            lead(head, (head + 1) % 8, (head + 3) % 16),
+            lead(head, (head + 5) % 8, (head + 7) % 16),
+            lead(head, (head + 3) % 8, (head + 13) % 16),
+            same(head, (head + 1) % 16),
+            pair(head, (head + 2) % 16, (head + 5) % 16),
+            pair(head, (head + 9) % 16, (head + 4) % 16),
+            pair(head, (head + 11) % 16, head),
+        ];
+        add_all(&mut grammar, &rules)?;
     }
     Ok(grammar)
 }
 
-// A language of 17 symbols, which every call refuses.
+// A language of 17 symbols and a watcher of 33 states, which every call refuses.
+// The program `words` has a language like it: the shared crates hold no language that is past the limits.
 #[derive(Clone, Copy)]
-pub struct Seventeen;
+pub struct Oversized;
 
-impl Alphabet for Seventeen {
+impl Alphabet for Oversized {
     ghost known = { λ _. 2 };
 
     ghost some_action = { λ _. omega arith };
@@ -218,7 +132,7 @@ impl Alphabet for Seventeen {
     }
 }
 
-impl UntilLanguage for Seventeen {
+impl UntilLanguage for Oversized {
     ghost words = { λ _ _. Unit {0} };
 
     ghost symbols = { λ _. 17 };
@@ -248,23 +162,7 @@ impl UntilLanguage for Seventeen {
     }
 }
 
-// A watcher of 33 states, which every call refuses.
-#[derive(Clone, Copy)]
-pub struct Many;
-
-impl Alphabet for Many {
-    ghost known = { λ _. 2 };
-
-    ghost some_action = { λ _. omega arith };
-
-    ghost few_actions = { λ _. omega arith };
-
-    fn action_count(&self) -> u8 {
-        2
-    }
-}
-
-impl Watcher for Many {
+impl Watcher for Oversized {
     ghost words = { λ _ _. Unit {0} };
 
     ghost table = { λ _. record { states = 33; start = 0; next = λ _ _. NoState; marked = λ _. false } };

@@ -1,7 +1,6 @@
 // Works the cases of the workshop model and the limits of drafts and sheets, and prints each beside what is expected.
 #![tactic(auto)]
 
-mod asking;
 mod drafts;
 mod languages;
 mod memory;
@@ -14,8 +13,8 @@ mod workshop;
 
 use report::Report;
 
-fn run(rt: &HostRuntime) -> anyhow::Result<()> {
-    let mut report = Report::new(rt);
+fn main(rt: HostRuntime) -> anyhow::Result<()> {
+    let mut report = Report::new(&rt);
     drafts::sizes(&mut report)?;
     drafts::edges(&mut report)?;
     drafts::labels(&mut report)?;
@@ -36,8 +35,4 @@ fn run(rt: &HostRuntime) -> anyhow::Result<()> {
     releases::nested(&mut report)?;
     releases::refused(&mut report)?;
     report.close()
-}
-
-fn main(rt: HostRuntime) -> anyhow::Result<()> {
-    run(&rt)
 }

@@ -1,8 +1,19 @@
 // Memory that the cases lend, filled so that a write can be seen, and what a call left of it.
-use crate::report::{Answer, count};
-use model::Step;
-use sheet::Fact;
+use language::UntilLanguage;
+use model::{Refusal, Step};
+use sheet::{Fact, Sheet};
 use std::alloc::{AllocError, Global};
+
+const FACT: Fact = Fact {
+    symbol: 99,
+    from: 99,
+    to: 99,
+};
+
+const STEP: Step = Step {
+    action: 99,
+    state: 99,
+};
 
 // A work table of sevens.
 pub fn table(heap: Global, entries: usize) -> Result<Vec<u32>, AllocError> {
@@ -10,14 +21,15 @@ pub fn table(heap: Global, entries: usize) -> Result<Vec<u32>, AllocError> {
 }
 
 // How many entries of a work table are as they were lent.
-pub fn sevens(table: &[u32]) -> Answer {
-    let mut kept = 0u32;
-    for entry in table {
-        if *entry == 7 {
-            kept = kept.saturating_add(1);
-        }
-    }
-    Answer::Number(kept)
+pub fn sevens(table: &[u32]) -> usize {
+    table.iter().filter(|entry| **entry == 7).count()
+}
+
+// The two questions of an until.
+#[derive(Clone, Copy)]
+pub struct Parts {
+    pub guard: usize,
+    pub goal: usize,
 }
 
 // Work table, waiting memory and step list, lent to a path call together.
@@ -37,54 +49,43 @@ impl Desk {
     ) -> Result<Desk, AllocError> {
         Ok(Desk {
             work: table(heap, entries)?,
-            waiting: vec![in heap; Fact {
-                symbol: 99,
-                from: 99,
-                to: 99
-            }; waiting]?,
-            steps: vec![in heap; Step {
-                action: 99,
-                state: 99
-            }; steps]?,
+            waiting: vec![in heap; FACT; waiting]?,
+            steps: vec![in heap; STEP; steps]?,
         })
     }
 
-    // How many entries of the work table are as they were lent.
-    pub fn sevens(&self) -> Answer {
-        sevens(&self.work)
+    // Asks for a path, with this memory.
+    pub fn path<L: UntilLanguage>(
+        &mut self,
+        sheet: &Sheet,
+        parts: Parts,
+        language: &L,
+        state: u8,
+    ) -> Result<Option<usize>, Refusal> {
+        sheet.path(
+            parts.guard,
+            parts.goal,
+            language,
+            state,
+            &mut self.work,
+            &mut self.waiting,
+            &mut self.steps,
+        )
     }
 
     // How many entries of the waiting memory are as they were lent.
-    pub fn unused(&self) -> Answer {
-        let mut kept = 0u32;
-        for fact in self.waiting.iter() {
-            if fact.symbol == 99 && fact.from == 99 && fact.to == 99 {
-                kept = kept.saturating_add(1);
-            }
-        }
-        Answer::Number(kept)
+    pub fn unused(&self) -> usize {
+        self.waiting.iter().filter(|fact| **fact == FACT).count()
     }
 
     // How many entries of the step list are as they were lent.
-    pub fn untouched(&self) -> Answer {
-        let mut kept = 0u32;
-        for step in self.steps.iter() {
-            if step.action == 99 && step.state == 99 {
-                kept = kept.saturating_add(1);
-            }
-        }
-        Answer::Number(kept)
+    pub fn untouched(&self) -> usize {
+        self.steps.iter().filter(|step| **step == STEP).count()
     }
 
     // How many steps, from a place on, have the action without a break.
-    pub fn leading(&self, from: usize, action: u8) -> Answer {
-        let mut seen = 0usize;
-        for step in self.steps.iter().skip(from) {
-            if step.action != action {
-                return count(seen);
-            }
-            seen = seen.saturating_add(1);
-        }
-        count(seen)
+    pub fn leading(&self, from: usize, action: u8) -> usize {
+        let later = self.steps.iter().skip(from);
+        later.take_while(|step| step.action == action).count()
     }
 }

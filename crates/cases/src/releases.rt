@@ -1,76 +1,75 @@
 // Releases: which states have a maximal path that keeps one.
-use crate::asking::{len, marks, not, release, until};
-use crate::languages::{Many, ab};
+use crate::languages::{Oversized, ab};
 use crate::memory::table;
-use crate::report::{Report, made};
+use crate::report::Report;
+use crate::sheets::marks;
 use crate::workshop::{basics, still, workshop};
+use model::Refusal;
 use sheet::Sheet;
 use watchers::{StepWatcher, TableWatcher};
 
 pub fn marked(report: &mut Report) -> anyhow::Result<()> {
     report.heading("releases on the workshop model")?;
-    let model = made(workshop())?;
-    let even = made(StepWatcher::new(2, 0, 2))?;
-    let odd = made(StepWatcher::new(2, 1, 2))?;
+    let model = workshop()?;
+    let even = StepWatcher::new(2, 0, 2)?;
+    let odd = StepWatcher::new(2, 1, 2)?;
     let mut sheet = Sheet::open(&model);
-    made(basics(&mut sheet))?;
-    report.number(
+    basics(&mut sheet)?;
+    report.compare(
         "release no, proposition 0, even lengths has the number",
-        release(&mut sheet, 3, 0, &even),
-        5,
+        sheet.release(3, 0, &even),
+        Ok(5),
     )?;
-    report.number(
+    report.compare(
         "release no, proposition 0, odd lengths has the number",
-        release(&mut sheet, 3, 0, &odd),
-        6,
+        sheet.release(3, 0, &odd),
+        Ok(6),
     )?;
-    report.number(
+    report.compare(
         "release proposition 1, no, odd lengths has the number",
-        release(&mut sheet, 4, 3, &odd),
-        7,
+        sheet.release(4, 3, &odd),
+        Ok(7),
     )?;
-    report.number(
-        "marks of release no, proposition 0, even lengths",
-        marks(&sheet, 5),
-        1,
-    )?;
-    report.number(
-        "marks of release no, proposition 0, odd lengths",
-        marks(&sheet, 6),
-        10,
-    )?;
-    report.number(
-        "marks of release proposition 1, no, odd lengths",
-        marks(&sheet, 7),
-        8,
-    )?;
+    let cases = [
+        ("marks of release no, proposition 0, even lengths", 5, 1),
+        ("marks of release no, proposition 0, odd lengths", 6, 10),
+        ("marks of release proposition 1, no, odd lengths", 7, 8),
+    ];
+    for (what, q, states) in cases {
+        report.compare(what, marks(&sheet, q), Ok(states))?;
+    }
     Ok(())
 }
 
 pub fn stopped(report: &mut Report) -> anyhow::Result<()> {
     report.heading("releases on one state without edges")?;
     let model = still();
-    let even = made(StepWatcher::new(2, 0, 1))?;
-    let odd = made(StepWatcher::new(2, 1, 1))?;
+    let even = StepWatcher::new(2, 0, 1)?;
+    let odd = StepWatcher::new(2, 1, 1)?;
     let mut sheet = Sheet::open(&model);
-    made(basics(&mut sheet))?;
-    report.number(
+    basics(&mut sheet)?;
+    report.compare(
         "release no, no, even lengths has the number",
-        release(&mut sheet, 3, 3, &even),
-        5,
+        sheet.release(3, 3, &even),
+        Ok(5),
     )?;
-    report.number(
+    report.compare(
         "release no, no, odd lengths has the number",
-        release(&mut sheet, 3, 3, &odd),
-        6,
+        sheet.release(3, 3, &odd),
+        Ok(6),
     )?;
-    report.number("marks of release no, no, even lengths", marks(&sheet, 5), 0)?;
-    report.number("marks of release no, no, odd lengths", marks(&sheet, 6), 1)?;
+    let cases = [
+        ("marks of release no, no, even lengths", 5, 0),
+        ("marks of release no, no, odd lengths", 6, 1),
+    ];
+    for (what, q, states) in cases {
+        report.compare(what, marks(&sheet, q), Ok(states))?;
+    }
     Ok(())
 }
 
 // A watcher of two states that marks the words in which action 1 has occurred.
-fn after_action_1() -> Result<TableWatcher, model::Refusal> {
+fn after_action_1() -> Result<TableWatcher, Refusal> {
     let mut watcher = TableWatcher::new();
     watcher.size(2, 2)?;
     watcher.set_next(0, 1, 1)?;
@@ -82,72 +81,81 @@ fn after_action_1() -> Result<TableWatcher, model::Refusal> {
 
 pub fn nested(report: &mut Report) -> anyhow::Result<()> {
     report.heading("untils and releases in one another, over several languages and watchers")?;
-    let model = made(workshop())?;
-    let odd = made(StepWatcher::new(2, 1, 2))?;
-    let after = made(after_action_1())?;
-    let both = made(ab())?;
+    let model = workshop()?;
+    let odd = StepWatcher::new(2, 1, 2)?;
+    let after = after_action_1()?;
+    let both = ab()?;
     let mut sheet = Sheet::open(&model);
-    made(basics(&mut sheet))?;
+    basics(&mut sheet)?;
     let mut work = table(report.heap(), 48)?;
-    report.number(
+    report.compare(
         "5: until yes, proposition 0, AB",
-        until(&mut sheet, 2, 0, &both, &mut work),
-        5,
+        sheet.until(2, 0, &both, &mut work),
+        Ok(5),
     )?;
-    report.number(
+    report.compare(
         "6: release no, question 5, after action 1",
-        release(&mut sheet, 3, 5, &after),
-        6,
+        sheet.release(3, 5, &after),
+        Ok(6),
     )?;
-    report.number(
+    report.compare(
         "7: release question 5, proposition 0, odd lengths",
-        release(&mut sheet, 5, 0, &odd),
-        7,
+        sheet.release(5, 0, &odd),
+        Ok(7),
     )?;
-    report.number(
+    report.compare(
         "8: until yes, question 6, AB",
-        until(&mut sheet, 2, 6, &both, &mut work),
-        8,
+        sheet.until(2, 6, &both, &mut work),
+        Ok(8),
     )?;
-    report.number("9: not question 8", not(&mut sheet, 8), 9)?;
-    report.number("marks of question 5", marks(&sheet, 5), 3)?;
-    report.number("marks of question 6", marks(&sheet, 6), 11)?;
-    report.number("marks of question 7", marks(&sheet, 7), 11)?;
-    report.number("marks of question 8", marks(&sheet, 8), 3)?;
-    report.number("marks of question 9", marks(&sheet, 9), 12)?;
+    report.compare("9: not question 8", sheet.not(8), Ok(9))?;
+    let cases = [
+        ("marks of question 5", 5, 3),
+        ("marks of question 6", 6, 11),
+        ("marks of question 7", 7, 11),
+        ("marks of question 8", 8, 3),
+        ("marks of question 9", 9, 12),
+    ];
+    for (what, q, states) in cases {
+        report.compare(what, marks(&sheet, q), Ok(states))?;
+    }
     Ok(())
 }
 
 pub fn refused(report: &mut Report) -> anyhow::Result<()> {
     report.heading("releases that are refused")?;
-    let model = made(workshop())?;
-    let three = made(StepWatcher::new(2, 0, 3))?;
-    let even = made(StepWatcher::new(2, 0, 2))?;
+    let model = workshop()?;
+    let three = StepWatcher::new(2, 0, 3)?;
+    let even = StepWatcher::new(2, 0, 2)?;
     let mut sheet = Sheet::open(&model);
-    report.refused(
+    report.compare(
         "a watcher over three actions",
-        release(&mut sheet, 0, 0, &three),
-        7,
+        sheet.release(0, 0, &three),
+        Err(Refusal::OtherAlphabet),
     )?;
-    report.refused(
+    report.compare(
         "a watcher of 33 states",
-        release(&mut sheet, 0, 0, &Many),
-        8,
+        sheet.release(0, 0, &Oversized),
+        Err(Refusal::TooLarge),
     )?;
-    report.refused(
+    report.compare(
         "parts that are not made",
-        release(&mut sheet, 0, 0, &even),
-        21,
+        sheet.release(0, 0, &even),
+        Err(Refusal::NoSuchQuestion),
     )?;
     for _ in 0..64 {
-        let _ = sheet.proposition(0);
+        sheet.proposition(0)?;
     }
-    report.refused(
+    report.compare(
         "kept part not made, on 64 questions",
-        release(&mut sheet, 0, 64, &even),
-        21,
+        sheet.release(0, 64, &even),
+        Err(Refusal::NoSuchQuestion),
     )?;
-    report.refused("one more question", release(&mut sheet, 0, 0, &even), 22)?;
-    report.number("questions on the sheet", len(&sheet), 64)?;
+    report.compare(
+        "one more question",
+        sheet.release(0, 0, &even),
+        Err(Refusal::SheetFull),
+    )?;
+    report.number("questions on the sheet", sheet.len(), 64)?;
     Ok(())
 }

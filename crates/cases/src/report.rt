@@ -1,51 +1,49 @@
 // Counts what was compared, and prints each comparison.
-use anyhow::anyhow;
+use anyhow::bail;
 use model::Refusal;
 use std::alloc::Global;
 use std::{fmt, io};
 
-// What came of a call.
-#[derive(Clone, Copy, PartialEq, Eq)]
-pub enum Answer {
-    Accepted,
-    // with the refusal's number
-    Refused(u8),
-    // a count, or marks as the sum of 2^s
-    Number(u32),
-    // no path
-    Nothing,
+// What a call can answer, as it is printed.
+pub trait Answer: PartialEq + Drop {
+    fn show<W: fmt::Write>(&self, f: &mut fmt::Formatter<W>) -> fmt::Result;
 }
 
-impl fmt::Display for Answer {
-    fn fmt<W: fmt::Write>(&self, f: &mut fmt::Formatter<W>) -> fmt::Result {
+// No more than that the call was accepted.
+impl Answer for () {
+    fn show<W: fmt::Write>(&self, f: &mut fmt::Formatter<W>) -> fmt::Result {
+        write!(f, "accepted")
+    }
+}
+
+// A count, the number of a question, or marks as the sum of 2^s.
+impl Answer for usize {
+    fn show<W: fmt::Write>(&self, f: &mut fmt::Formatter<W>) -> fmt::Result {
+        write!(f, "{self}")
+    }
+}
+
+// How many steps a path has, if there is one.
+impl Answer for Option<usize> {
+    fn show<W: fmt::Write>(&self, f: &mut fmt::Formatter<W>) -> fmt::Result {
         match self {
-            Answer::Accepted => write!(f, "accepted"),
-            Answer::Refused(number) => write!(f, "refused with {number}"),
-            Answer::Number(n) => write!(f, "{n}"),
-            Answer::Nothing => write!(f, "none"),
+            Some(steps) => write!(f, "{steps}"),
+            None => write!(f, "none"),
         }
     }
 }
 
-// What a call made that the cases need; none of these is refused.
-pub fn made<T>(answer: Result<T, Refusal>) -> anyhow::Result<T> {
-    match answer {
-        Ok(x) => Ok(x),
-        Err(_) => Err(anyhow!("a model, a language or a question was refused")),
-    }
-}
+// What came of a call.
+#[derive(Drop)]
+struct Outcome<T>(Result<T, Refusal>);
 
-// Whether a call was accepted.
-pub fn outcome<T: Drop>(answer: Result<T, Refusal>) -> Answer {
-    match answer {
-        Ok(_) => Answer::Accepted,
-        Err(cause) => Answer::Refused(cause.number()),
+impl<T: Answer> fmt::Display for Outcome<T> {
+    fn fmt<W: fmt::Write>(&self, f: &mut fmt::Formatter<W>) -> fmt::Result {
+        match &self.0 {
+            Ok(answer) => answer.show(f),
+            Err(refusal) => write!(f, "refused with {refusal}"),
+        }
     }
-}
-
-// A count; none of ours passes 32 bits.
-pub fn count(n: usize) -> Answer {
-    Answer::Number(u32::try_from(n).unwrap_or(u32::MAX))
 }
 
 #[derive(Drop)]
@@ -74,39 +72,33 @@ impl<'a> Report<'a> {
         println!(self.rt; "{text}")
     }
 
-    // Prints what was found beside what is expected.
-    fn compare(&mut self, what: &str, found: Answer, expected: Answer) -> io::Result<()> {
+    // Prints what came of a call beside what is expected.
+    pub fn compare<T: Answer>(
+        &mut self,
+        what: &str,
+        found: Result<T, Refusal>,
+        expected: Result<T, Refusal>,
+    ) -> io::Result<()> {
         self.cases = self.cases.saturating_add(1);
         if found != expected {
             self.differences = self.differences.saturating_add(1);
             print!(self.rt; "DIFFERS: ")?;
         }
+        let (found, expected) = (Outcome(found), Outcome(expected));
         println!(self.rt; "{what}: {found}, expected {expected}")
     }
 
-    pub fn number(&mut self, what: &str, found: Answer, expected: u32) -> io::Result<()> {
-        self.compare(what, found, Answer::Number(expected))
-    }
-
-    pub fn refused(&mut self, what: &str, found: Answer, expected: u8) -> io::Result<()> {
-        self.compare(what, found, Answer::Refused(expected))
-    }
-
-    pub fn none(&mut self, what: &str, found: Answer) -> io::Result<()> {
-        self.compare(what, found, Answer::Nothing)
-    }
-
-    pub fn accepted(&mut self, what: &str, found: Answer) -> io::Result<()> {
-        self.compare(what, found, Answer::Accepted)
+    // Prints a number beside what is expected.
+    pub fn number(&mut self, what: &str, found: usize, expected: usize) -> io::Result<()> {
+        self.compare(what, Ok(found), Ok(expected))
     }
 
     // Prints how many comparisons there were; a difference is an error.
     pub fn close(&self) -> anyhow::Result<()> {
-        let cases = self.cases;
-        let differences = self.differences;
+        let (cases, differences) = (self.cases, self.differences);
         println!(self.rt; "{cases} cases, {differences} differences")?;
         if differences > 0 {
-            return Err(anyhow!("a case differs from what is expected"));
+            bail!("a case differs from what is expected");
         }
         Ok(())
     }

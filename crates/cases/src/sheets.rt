@@ -1,66 +1,80 @@
 // What sheets answer and refuse.
-use crate::asking::{len, marks, not, or, proposition};
-use crate::report::{Report, made};
+use crate::report::Report;
 use crate::workshop::{still, workshop};
-use model::Draft;
+use model::Refusal;
 use sheet::Sheet;
+
+// The marks of question q as the sum of 2^s.
+pub fn marks(sheet: &Sheet, q: usize) -> Result<usize, Refusal> {
+    Ok(sheet.marks(q)?.bits() as usize)
+}
 
 pub fn booleans(report: &mut Report) -> anyhow::Result<()> {
     report.heading("questions about the workshop model, marks as the sum of 2^s")?;
-    let model = made(workshop())?;
+    let model = workshop()?;
     let mut sheet = Sheet::open(&model);
-    report.number(
-        "proposition 0 has the number",
-        proposition(&mut sheet, 0),
-        0,
-    )?;
-    report.number("not question 0 has the number", not(&mut sheet, 0), 1)?;
-    report.number("question 0 or 1 has the number", or(&mut sheet, 0, 1), 2)?;
-    report.number("not question 2 has the number", not(&mut sheet, 2), 3)?;
-    report.number(
-        "proposition 1 has the number",
-        proposition(&mut sheet, 1),
-        4,
-    )?;
-    report.number("marks of proposition 0", marks(&sheet, 0), 1)?;
-    report.number("marks of not proposition 0", marks(&sheet, 1), 14)?;
-    report.number("marks of yes", marks(&sheet, 2), 15)?;
-    report.number("marks of no", marks(&sheet, 3), 0)?;
-    report.number("marks of proposition 1", marks(&sheet, 4), 8)?;
+    report.compare("proposition 0 has the number", sheet.proposition(0), Ok(0))?;
+    report.compare("not question 0 has the number", sheet.not(0), Ok(1))?;
+    report.compare("question 0 or 1 has the number", sheet.or(0, 1), Ok(2))?;
+    report.compare("not question 2 has the number", sheet.not(2), Ok(3))?;
+    report.compare("proposition 1 has the number", sheet.proposition(1), Ok(4))?;
+    let cases = [
+        ("marks of proposition 0", 0, 1),
+        ("marks of not proposition 0", 1, 14),
+        ("marks of yes", 2, 15),
+        ("marks of no", 3, 0),
+        ("marks of proposition 1", 4, 8),
+    ];
+    for (what, q, states) in cases {
+        report.compare(what, marks(&sheet, q), Ok(states))?;
+    }
     Ok(())
 }
 
 pub fn refusals(report: &mut Report) -> anyhow::Result<()> {
     report.heading("questions that are refused")?;
+    let missing = Err(Refusal::NoSuchQuestion);
     let model = still();
     let mut sheet = Sheet::open(&model);
-    report.refused("marks on an empty sheet", marks(&sheet, 0), 21)?;
-    report.number("proposition 31", proposition(&mut sheet, 31), 0)?;
-    report.refused("proposition 32", proposition(&mut sheet, 32), 3)?;
-    report.refused("not question 1", not(&mut sheet, 1), 21)?;
-    report.refused("question 0 or 1", or(&mut sheet, 0, 1), 21)?;
-    report.refused("question 1 or 0", or(&mut sheet, 1, 0), 21)?;
-    report.refused("marks of question 1", marks(&sheet, 1), 21)?;
-    report.number("questions on the sheet", len(&sheet), 1)?;
-    report.number("marks of question 0", marks(&sheet, 0), 0)?;
+    report.compare("marks on an empty sheet", marks(&sheet, 0), missing)?;
+    report.compare("proposition 31", sheet.proposition(31), Ok(0))?;
+    report.compare(
+        "proposition 32",
+        sheet.proposition(32),
+        Err(Refusal::NoSuchProposition),
+    )?;
+    report.compare("not question 1", sheet.not(1), missing)?;
+    report.compare("question 0 or 1", sheet.or(0, 1), missing)?;
+    report.compare("question 1 or 0", sheet.or(1, 0), missing)?;
+    report.compare("marks of question 1", marks(&sheet, 1), missing)?;
+    report.number("questions on the sheet", sheet.len(), 1)?;
+    report.compare("marks of question 0", marks(&sheet, 0), Ok(0))?;
     Ok(())
 }
 
 pub fn limits(report: &mut Report) -> anyhow::Result<()> {
     report.heading("64 questions")?;
-    let draft = Draft::new();
-    let still = draft.seal();
-    let mut sheet = Sheet::open(&still);
+    let full = Err(Refusal::SheetFull);
+    let model = still();
+    let mut sheet = Sheet::open(&model);
     for _ in 0..64 {
-        let _ = sheet.proposition(0);
+        sheet.proposition(0)?;
     }
-    report.number("questions on the sheet", len(&sheet), 64)?;
-    report.refused("one more proposition", proposition(&mut sheet, 0), 22)?;
-    report.refused("proposition 32", proposition(&mut sheet, 32), 3)?;
-    report.refused("not question 63", not(&mut sheet, 63), 22)?;
-    report.refused("not question 64", not(&mut sheet, 64), 21)?;
-    report.refused("question 0 or 63", or(&mut sheet, 0, 63), 22)?;
-    report.number("questions on the sheet", len(&sheet), 64)?;
-    report.number("marks of question 63", marks(&sheet, 63), 0)?;
+    report.number("questions on the sheet", sheet.len(), 64)?;
+    report.compare("one more proposition", sheet.proposition(0), full)?;
+    report.compare(
+        "proposition 32",
+        sheet.proposition(32),
+        Err(Refusal::NoSuchProposition),
+    )?;
+    report.compare("not question 63", sheet.not(63), full)?;
+    report.compare(
+        "not question 64",
+        sheet.not(64),
+        Err(Refusal::NoSuchQuestion),
+    )?;
+    report.compare("question 0 or 63", sheet.or(0, 63), full)?;
+    report.number("questions on the sheet", sheet.len(), 64)?;
+    report.compare("marks of question 63", marks(&sheet, 63), Ok(0))?;
     Ok(())
 }
