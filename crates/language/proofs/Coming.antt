@@ -1,11 +1,11 @@
 -- The rules that an iterator has given, and those that are still to come.
-use Rattle.std.proofs.Common.{◌≡◌, ℕ, zero, suc, ◌+◌, ◌<◌, ◌⊎◌, List, [], ◌∷◌, ◌++◌, length, drop, Some, Option, sym, refl, ap, ◌∙◌, subst, inl, inr, ⊎_elim}
+use Rattle.std.proofs.Common.{◌≡◌, ℕ, zero, suc, ◌+◌, ◌<◌, ◌⊎◌, List, [], ◌∷◌, ◌++◌, length, drop, Some, Option, sym, refl, ap, ◌∙◌, subst, inl, inr, ⊎_elim, append-nil}
 use Rattle.std.specs.List.{slice_get}
 use Rattle.std.proofs.lemmas.List.{drop_more}
 use Rattle.std.proofs.lemmas.Option.{slice_get-get_or}
 use Rattle.std.specs.Iterator.{YieldsFirst, Yields}
-use Rattle.model.specs.Relations.{Among, Joined}
-use Rattle.model.proofs.Joins.{joined_like, joined_both}
+use Rattle.model.specs.Relations.{Among, Joined, Exactly}
+use Rattle.model.proofs.Joins.{joined_like, joined_both, joined_exact}
 use Rattle.language.specs.Rules.{BySome}
 use Rattle.language.specs.declared.rule.Rule.{Rule}
 use Rattle.language.specs.declared.rule.Rule.TheVariants.{Empty}
@@ -55,3 +55,13 @@ joined_next gone x D before now = joined_like _ _
     (λ y m. ⊎_elim (λ a. (a.0, among_earlier gone x a.0 a.1, a.2)) (λ d. (x, among_middle gone x [], d)) m)
     (λ y m. ⊎_elim (λ a. inl (m.0, a, m.2)) (λ e. inr (subst (λ r. D r y) e m.2)) (among_last x gone m.0 m.1))
     (joined_both _ _ before now)
+
+-- at the end all rules came
+pub all_came : {all start left : List Rule} (gone : List Rule) → start ≡ all → Yields GivesFirst start gone left → left ≡ [] → gone ≡ all
+all_came {all} {start} {left} gone from y none = sym (append-nil gone) ∙ ap (λ r. gone ++ r) (sym none) ∙ sym (all_rules start gone left y) ∙ from
+
+-- and where nothing was there before, there is what they added
+pub exactly_all : {Y : Type 0} {P Q : Y → Type 0} {all start left : List Rule} (gone : List Rule) (D : Rule → Y → Type 0) → ((y : Y) → P y → ⊥) → start ≡ all → Yields GivesFirst start gone left → left ≡ [] → Joined P Q (BySome D gone) → Exactly Q (BySome D all)
+exactly_all {all = all} gone D nothing from y none j =
+    let done = all_came gone from y none in
+    joined_exact (BySome D gone) (BySome D all) nothing (λ z m. subst (λ rules. BySome D rules z) done m) (λ z m. subst (λ rules. BySome D rules z) (sym done) m) j

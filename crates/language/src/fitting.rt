@@ -1,7 +1,9 @@
 // Languages within the limits of calls.
 ghost use Rattle.std.specs.Prelude.{◌≡◌, IfOk};
 ghost use Rattle.model.specs.Refusals.{refusal};
+ghost use Rattle.model.specs.Relations.{Exactly};
 ghost use Rattle.language.specs.Rules.{RulesWithin};
+ghost use Rattle.language.specs.Derivations.{Derives};
 ghost use Rattle.language.specs.Limits.{WithinLimits, CauseLarge};
 
 use crate::rules::Rules;
@@ -53,5 +55,12 @@ impl<'a, L: UntilLanguage> Fitting<'a, L> {
         ensures named { RulesWithin (L.symbols self.now) (L.rules self.now) }
     {
         Rules::of(self.language)
+    }
+
+    // Its words are those that its rules derive. The call does nothing but say so.
+    pub fn derived(&self)
+        ensures { Exactly (L.words self.now) (Derives (L.rules self.now) 0) }
+    {
+        let _ = &self.language;
     }
 }

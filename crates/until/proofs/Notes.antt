@@ -53,7 +53,7 @@ spot_below n m k pos l =
     subst (λ j. j < m * n * n) (sym (place_of n (k / n / n) (k / n % n) k refl refl)) (place_below n m (k / n / n) (k / n % n) (k % n) l (mod_below (k / n) n pos) (mod_below k n pos))
 
 -- the places of one row
-module _ (n x s : ℕ) (rows : List NumberSet) (row : NumberSet) (small : n ≤ 32) (within : s < n) (is_row : row ≡ row_of rows x s) (below : FactsBelow 16 n (Holds rows)) where
+module _ (n x s : ℕ) (rows : List NumberSet) (row : NumberSet) {m : ℕ} (small : n ≤ 32) (within : s < n) (is_row : row ≡ row_of rows x s) (below : FactsBelow m n (Holds rows)) where
   pub row_to_below : (t : ℕ) → Has row t → t < n
   row_to_below t h = (below (x, s, t) (omega arith, subst (λ y. Has y t) is_row h)).2
 

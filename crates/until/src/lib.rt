@@ -4,8 +4,10 @@
 
 mod fact_table;
 mod filling;
+mod layout;
 mod marking;
 mod noting;
+mod parts;
 mod rounds;
 mod rule_steps;
 

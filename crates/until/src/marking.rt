@@ -8,16 +8,16 @@ ghost use Rattle.until.specs.FactTables.{Holds};
 
 use crate::fact_table::FactTable;
 use crate::filling::fill;
-use crate::rule_steps::common;
-use language::UntilLanguage;
-use model::{Model, NumberSet};
+use language::{Fitting, UntilLanguage};
+use logic::GuardedModel;
+use model::NumberSet;
 
 // The state s alone where symbol 0 has a fact from s to a state of the goal, and else the empty set.
 fn reaching_from(table: &FactTable, goal: NumberSet, s: u8) -> NumberSet
     requires { s < 32 }
     ensures { Exactly (Has result) (λ u. (u ≡ s) × (t : ℕ) × Holds table.now.rows (0, u, t) × Has goal t) }
 {
-    let mut met = common(table.row(0, s), goal);
+    let mut met = table.row(0, s).common(goal);
     match met.take_last() {
         Some(_) => NumberSet::single(s),
         None => NumberSet::empty(),
@@ -38,21 +38,20 @@ pub fn reaching(table: &FactTable, goal: NumberSet, states: u8) -> NumberSet
 }
 
 // The states from which some good path starts: its word is in the language, the guard holds before its end, and the
-// goal at its end. Another crate of ours calls this, and checks the sizes.
+// goal at its end. Another crate of ours calls this, and checks the size of
+// the table.
 pub fn satisfying<L: UntilLanguage>(
-    language: &L,
-    model: &Model,
-    guard: NumberSet,
+    language: &Fitting<L>,
+    guarded: &GuardedModel,
     goal: NumberSet,
     work: &mut [u32],
 ) -> NumberSet
-    requires symbols { L.UntilLanguage.symbols language.now ≤ 16 }
-    requires rules { length (L.UntilLanguage.rules language.now) ≤ 128 }
-    requires room { L.UntilLanguage.symbols language.now * model.now.states * model.now.states ≤ length work.old }
-    ensures derived { Exactly (Has result) (λ s. (s < model.now.states) × SomeGood model.now (Has guard) (Has goal) (Derives (L.UntilLanguage.rules language.now) 0) s) }
-    ensures words { Exactly (Has result) (λ s. (s < model.now.states) × SomeGood model.now (Has guard) (Has goal) (L.UntilLanguage.words language.now) s) }
-    ensures others { (k : ℕ) → L.UntilLanguage.symbols language.now * model.now.states * model.now.states ≤ k → slice_index work.new k ≡ slice_index work.old k }
+    requires { L.symbols language.now * guarded.now.model.states * guarded.now.model.states ≤ length work.old }
+    ensures derived { Exactly (Has result) (λ s. (s < guarded.now.model.states) × SomeGood guarded.now.model (Has guarded.now.guard) (Has goal) (Derives (L.rules language.now) 0) s) }
+    ensures words { Exactly (Has result) (λ s. (s < guarded.now.model.states) × SomeGood guarded.now.model (Has guarded.now.guard) (Has goal) (L.words language.now) s) }
+    ensures others { (k : ℕ) → L.symbols language.now * guarded.now.model.states * guarded.now.model.states ≤ k → slice_index work.new k ≡ slice_index work.old k }
 {
-    let table = fill(language, model, guard, work);
-    reaching(&table, goal, model.states())
+    language.derived();
+    let table = fill(language, guarded, work);
+    reaching(&table, goal, guarded.states())
 }

@@ -1,11 +1,12 @@
 // The work table: for each fact the round in which it came.
 ghost use Rattle.std.specs.Prelude.{◌≡◌, ℕ, ◌+◌, ◌*◌, ◌/◌, ◌<◌, ◌≤◌, length};
 ghost use Rattle.model.specs.Sets.{Has};
-ghost use Rattle.until.specs.FactTables.{Holds, row_of, spot};
+ghost use Rattle.until.specs.FactTables.{Holds, spot};
 ghost use Rattle.until.specs.Consequences.{FactsBelow};
 ghost use Rattle.until.specs.Notes.{Written};
 
 use crate::fact_table::FactTable;
+use crate::layout::Layout;
 use model::NumberSet;
 
 // Clears the places below `cells`.
@@ -13,9 +14,7 @@ pub(crate) fn clear(work: &mut [u32], cells: usize)
     requires { cells ≤ length work.old }
     ensures { Written (λ k. k < cells) 0 work.old work.new }
 {
-    for place in 0..cells {
-        work[place] = 0;
-    }
+    work[..cells].fill(0);
 }
 
 // Writes the round at the places of a row's facts, which begin at `base`.
@@ -30,26 +29,25 @@ fn note_row(work: &mut [u32], row: NumberSet, base: usize, round: u32)
 }
 
 // Writes the round at the places of a symbol's facts.
-fn note_symbol(work: &mut [u32], fresh: &FactTable, symbol: u8, states: u8, round: u32)
-    requires few { (symbol < 16) × (states ≤ 32) }
-    requires below { FactsBelow 16 states (Holds fresh.now.rows) }
-    requires room { (symbol + 1) * states * states ≤ length work.old }
-    ensures { Written (λ k. (k / states / states ≡ symbol) × Holds fresh.now.rows (spot states k)) round work.old work.new }
+fn note_symbol(work: &mut [u32], fresh: &FactTable, symbol: u8, layout: Layout, round: u32)
+    requires symbol { symbol < layout.symbols }
+    requires below { FactsBelow layout.symbols layout.states (Holds fresh.now.rows) }
+    requires room { layout.symbols * layout.states * layout.states ≤ length work.old }
+    ensures { Written (λ k. (k / layout.states / layout.states ≡ symbol) × Holds fresh.now.rows (spot layout.states k)) round work.old work.new }
 {
-    for from in 0..states {
-        let base = (symbol as usize * states as usize + from as usize) * states as usize;
+    for from in 0..layout.states {
+        let base = layout.row(symbol, from);
         note_row(work, fresh.row(symbol, from), base, round);
     }
 }
 
 // Writes the round at the place of each fresh fact, and leaves every other place as it is.
-pub(crate) fn note(work: &mut [u32], fresh: &FactTable, symbols: u8, states: u8, round: u32)
-    requires few { (symbols ≤ 16) × (states ≤ 32) }
-    requires below { FactsBelow symbols states (Holds fresh.now.rows) }
-    requires room { symbols * states * states ≤ length work.old }
-    ensures { Written (λ k. Holds fresh.now.rows (spot states k)) round work.old work.new }
+pub(crate) fn note(work: &mut [u32], fresh: &FactTable, layout: Layout, round: u32)
+    requires below { FactsBelow layout.symbols layout.states (Holds fresh.now.rows) }
+    requires room { layout.symbols * layout.states * layout.states ≤ length work.old }
+    ensures { Written (λ k. Holds fresh.now.rows (spot layout.states k)) round work.old work.new }
 {
-    for symbol in 0..symbols {
-        note_symbol(work, fresh, symbol, states, round);
+    for symbol in 0..layout.symbols {
+        note_symbol(work, fresh, symbol, layout, round);
     }
 }

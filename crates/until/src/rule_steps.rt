@@ -1,19 +1,21 @@
 // What one rule adds to a table of found facts.
-ghost use Rattle.std.specs.Prelude.{◌≡◌, ℕ, ◌<◌, ◌≤◌};
+ghost use Rattle.std.specs.Prelude.{◌≡◌, ◌<◌, ◌≤◌};
 ghost use Rattle.model.specs.Relations.{Joined, Exactly};
 ghost use Rattle.model.specs.Sets.{Has};
-ghost use Rattle.language.specs.Rules.{SymbolsBelow};
-ghost use Rattle.logic.specs.Facts.{Triple, ground};
+ghost use Rattle.language.specs.Rules.{head_of, SymbolsBelow};
 ghost use Rattle.until.specs.FactTables.{Holds};
 ghost use Rattle.until.specs.Consequences.{FactsBelow, ByEmpty, BySame, ByPair, ByEdge, Led, GivesAlone, GivesFresh};
 
 use crate::fact_table::FactTable;
+use crate::parts::Parts;
 use language::Rule;
-use model::{Edge, Model, NumberSet};
+use logic::GuardedModel;
+use model::{Edge, NumberSet};
 
 // An empty rule: each state reaches itself.
 fn add_empty(found: &mut FactTable, states: u8, head: u8)
-    requires { (head < 16) × (states ≤ 32) }
+    requires head { head < 16 }
+    requires states { states ≤ 32 }
     ensures { Joined (Holds found.old.rows) (Holds found.new.rows) (ByEmpty states head) }
 {
     for from in 0..states {
@@ -23,19 +25,15 @@ fn add_empty(found: &mut FactTable, states: u8, head: u8)
 
 // A same rule, from the facts of `bodies`.
 fn add_same(found: &mut FactTable, bodies: &FactTable, states: u8, head: u8, body: u8)
-    requires { (head < 16) × ((body < 16) × ((states ≤ 32) × (FactsBelow 16 states (Holds bodies.now.rows)))) }
+    requires head { head < 16 }
+    requires body { body < 16 }
+    requires states { states ≤ 32 }
+    requires bodies { FactsBelow 16 states (Holds bodies.now.rows) }
     ensures { Joined (Holds found.old.rows) (Holds found.new.rows) (BySame head body (Holds bodies.now.rows)) }
 {
     for from in 0..states {
         found.add(head, from, bodies.row(body, from));
     }
-}
-
-// The numbers of both sets.
-pub(crate) fn common(a: NumberSet, b: NumberSet) -> NumberSet
-    ensures { Exactly (Has result) (λ t. Has a t × Has b t) }
-{
-    a.without(a.without(b))
 }
 
 // A pair rule, with its left part among `firsts` and its right part among `seconds`.
@@ -48,47 +46,44 @@ fn add_pair(
     left: u8,
     right: u8,
 )
-    requires few { (head < 16) × ((left < 16) × ((right < 16) × (states ≤ 32))) }
+    requires head { head < 16 }
+    requires left { left < 16 }
+    requires right { right < 16 }
+    requires states { states ≤ 32 }
     requires firsts { FactsBelow 16 states (Holds firsts.now.rows) }
     requires seconds { FactsBelow 16 states (Holds seconds.now.rows) }
     ensures { Joined (Holds found.old.rows) (Holds found.new.rows) (ByPair head left right (Holds firsts.now.rows) (Holds seconds.now.rows)) }
 {
     let starts = seconds.starts(right);
     for from in 0..states {
-        let middle = common(firsts.row(left, from), starts);
+        let middle = firsts.row(left, from).common(starts);
         let reached = seconds.through(found.row(head, from), middle, right, states);
         found.add(head, from, reached);
     }
 }
 
 // Where a letter or lead rule comes by this edge first, with the rest of a lead rule among `rests`.
-fn led(rests: &FactTable, model: &Model, guard: NumberSet, rule: Rule, edge: Edge) -> NumberSet
-    requires { (SymbolsBelow 16 rule) × ((edge.from < 32) × (edge.to < 32)) }
-    ensures { Exactly (Has result) (Led (ground model.now guard) rule (Holds rests.now.rows) edge) }
+fn led(rests: &FactTable, guarded: &GuardedModel, rule: Rule, edge: Edge) -> NumberSet
+    requires rule { SymbolsBelow 16 rule }
+    requires to { edge.to < 32 }
+    ensures { Exactly (Has result) (Led guarded.now rule (Holds rests.now.rows) edge) }
 {
     match rule {
-        Rule::Letter { action, .. } if edge.action == action && guard.has(edge.from) =>
+        Rule::Letter { action, .. } if edge.action == action && guarded.admits(edge.from) =>
             NumberSet::single(edge.to),
-        Rule::Lead { action, rest, .. } if edge.action == action && guard.has(edge.from) =>
+        Rule::Lead { action, rest, .. } if edge.action == action && guarded.admits(edge.from) =>
             rests.row(rest, edge.to),
         _ => NumberSet::empty(),
     }
 }
 
 // A letter or lead rule, with the rest of a lead rule among `rests`.
-fn add_led(
-    found: &mut FactTable,
-    rests: &FactTable,
-    model: &Model,
-    guard: NumberSet,
-    rule: Rule,
-    head: u8,
-)
-    requires { (head < 16) × (SymbolsBelow 16 rule) }
-    ensures { Joined (Holds found.old.rows) (Holds found.new.rows) (ByEdge (ground model.now guard) head rule (Holds rests.now.rows)) }
+fn add_led(found: &mut FactTable, rests: &FactTable, guarded: &GuardedModel, rule: Rule)
+    requires { SymbolsBelow 16 rule }
+    ensures { Joined (Holds found.old.rows) (Holds found.new.rows) (ByEdge guarded.now (head_of rule) rule (Holds rests.now.rows)) }
 {
-    for edge in model.edges() {
-        found.add(head, edge.from, led(rests, model, guard, rule, *edge));
+    for edge in guarded.edges() {
+        found.add(rule.head(), edge.from, led(rests, guarded, rule, *edge));
     }
 }
 
@@ -96,57 +91,43 @@ fn add_led(
 pub(crate) fn add_alone(
     found: &mut FactTable,
     rests: &FactTable,
-    model: &Model,
-    guard: NumberSet,
+    guarded: &GuardedModel,
     rule: Rule,
 )
     requires { SymbolsBelow 16 rule }
-    ensures { Joined (Holds found.old.rows) (Holds found.new.rows) (GivesAlone (ground model.now guard) rule) }
+    ensures { Joined (Holds found.old.rows) (Holds found.new.rows) (GivesAlone guarded.now rule) }
 {
     match rule {
-        Rule::Empty { head } => add_empty(found, model.states(), head),
-        Rule::Letter { head, .. } => add_led(found, rests, model, guard, rule, head),
-        Rule::Lead { .. } => {}
-        Rule::Same { .. } => {}
-        Rule::Pair { .. } => {}
+        Rule::Empty { head } => add_empty(found, guarded.states(), head),
+        Rule::Letter { .. } => add_led(found, rests, guarded, rule),
+        Rule::Lead { .. } | Rule::Same { .. } | Rule::Pair { .. } => {}
     }
 }
 
-// A rule with a fresh fact among its parts; only the symbols of `live` have one.
-pub(crate) fn add_fresh(
-    found: &mut FactTable,
-    all: &FactTable,
-    fresh: &FactTable,
-    live: NumberSet,
-    model: &Model,
-    guard: NumberSet,
-    rule: Rule,
-)
-    requires rule { SymbolsBelow 16 rule }
-    requires all { FactsBelow 16 model.now.states (Holds all.now.rows) }
-    requires fresh { FactsBelow 16 model.now.states (Holds fresh.now.rows) }
-    requires live { (f : Triple) → Holds fresh.now.rows f → Has live f.0 }
-    ensures { Joined (Holds found.old.rows) (Holds found.new.rows) (GivesFresh (ground model.now guard) rule (Holds all.now.rows) (Holds fresh.now.rows)) }
+// A rule with a fresh fact among its parts; only the live symbols have one.
+pub(crate) fn add_fresh(found: &mut FactTable, parts: &Parts, guarded: &GuardedModel, rule: Rule)
+    requires { SymbolsBelow 16 rule }
+    ensures { Joined (Holds found.old.rows) (Holds found.new.rows) (GivesFresh guarded.now rule (Holds parts.now.all.now.rows) (Holds parts.now.fresh.now.rows)) }
 {
     match rule {
-        Rule::Empty { .. } => {}
-        Rule::Letter { .. } => {}
-        Rule::Lead { head, rest, .. } => {
-            if live.has(rest) {
-                add_led(found, fresh, model, guard, rule, head);
+        Rule::Empty { .. } | Rule::Letter { .. } => {}
+        Rule::Lead { rest, .. } => {
+            if parts.live.has(rest) {
+                add_led(found, parts.fresh, guarded, rule);
             }
         }
         Rule::Same { head, body } => {
-            if live.has(body) {
-                add_same(found, fresh, model.states(), head, body);
+            if parts.live.has(body) {
+                add_same(found, parts.fresh, parts.states, head, body);
             }
         }
         Rule::Pair { head, left, right } => {
-            if live.has(left) {
-                add_pair(found, fresh, all, model.states(), head, left, right);
+            let states = parts.states;
+            if parts.live.has(left) {
+                add_pair(found, parts.fresh, parts.all, states, head, left, right);
             }
-            if live.has(right) {
-                add_pair(found, all, fresh, model.states(), head, left, right);
+            if parts.live.has(right) {
+                add_pair(found, parts.all, parts.fresh, states, head, left, right);
             }
         }
     }

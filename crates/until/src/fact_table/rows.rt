@@ -11,7 +11,8 @@ use model::NumberSet;
 impl FactTable {
     // The to-states of the facts of a symbol from a state. Only crates of ours call this, within the limits.
     pub fn row(&self, symbol: u8, from: u8) -> NumberSet
-        requires { (symbol < 16) × (from < 32) }
+        requires symbol { symbol < 16 }
+        requires from { from < 32 }
         ensures { result ≡ row_of self.now.rows symbol from }
     {
         self.rows[symbol as usize * 32 + from as usize]
@@ -19,7 +20,8 @@ impl FactTable {
 
     // Adds the facts of a symbol from a state to each state of `more`.
     pub(crate) fn add(&mut self, symbol: u8, from: u8, more: NumberSet)
-        requires { (symbol < 16) × (from < 32) }
+        requires symbol { symbol < 16 }
+        requires from { from < 32 }
         ensures { Joined (Holds self.old.rows) (Holds self.new.rows) (InRow symbol from (Has more)) }
     {
         let row = self.row(symbol, from).union(more);
@@ -62,7 +64,8 @@ impl FactTable {
         symbol: u8,
         states: u8,
     ) -> NumberSet
-        requires few { (symbol < 16) × (states ≤ 32) }
+        requires symbol { symbol < 16 }
+        requires states { states ≤ 32 }
         requires below { FactsBelow 16 states (Holds self.now.rows) }
         ensures { Joined (Has reached) (Has result) (Through (Has from) (Holds self.now.rows) symbol) }
     {

@@ -4,4 +4,4 @@ use Rattle.until.specs.Notes.{Written}
 use Rattle.until.proofs.noting.note.Given as goal
 
 abbrev pub invariant-loop-symbol : goal.invariant-loop-symbol
-invariant-loop-symbol l = Written (λ k. (k / l.states / l.states < l.symbol) × Holds l.fresh.rows (spot l.states k)) l.round l.initial.work l.work
+invariant-loop-symbol l = Written (λ k. (k / l.layout.states / l.layout.states < l.symbol) × Holds l.fresh.rows (spot l.layout.states k)) l.round l.initial.work l.work

@@ -1,12 +1,8 @@
-use Rattle.std.proofs.Common.{◌≡◌, Some}
-use Rattle.std.specs.List.{slice_get}
-use Rattle.language.specs.declared.rule.Rule.{Rule}
-use Rattle.model.specs.Relations.{Joined, Upto}
-use Rattle.logic.specs.Facts.{ground}
+use Rattle.model.specs.Relations.{Joined}
+use Rattle.language.specs.Rules.{BySome}
 use Rattle.until.specs.FactTables.{Holds}
 use Rattle.until.specs.Consequences.{GivesAlone}
 use Rattle.until.proofs.rounds.first_facts.Given as goal
 
-abbrev pub invariant-loop-place : goal.invariant-loop-place
-invariant-loop-place g l = Joined (Holds l.initial.found.rows) (Holds l.found.rows)
-    (Upto (λ k f. (r : Rule) × (slice_get (g.L.UntilLanguage.rules l.language) k ≡ Some r) × GivesAlone (ground l.model l.guard) r f) l.place)
+abbrev pub invariant-loop-rule : goal.invariant-loop-rule
+invariant-loop-rule g l = Joined (Holds l.initial.found.rows) (Holds l.found.rows) (BySome (λ r f. GivesAlone l.guarded r f) l.yielded)

@@ -1,92 +1,75 @@
-use Rattle.std.proofs.Common.{◌≤◌, sym, subst}
+use Rattle.std.proofs.Common.{sym, subst, ⊎_elim}
 use mathlib.Core.Bool.{false≢true}
 use Rattle.model.specs.Relations.{Joined}
 use Rattle.model.proofs.Joins.{joined_same, joined_both, joined_from}
-use Rattle.logic.specs.Facts.{ground}
 use Rattle.until.specs.declared.fact_table.FactTable.{FactTable}
 use Rattle.until.specs.FactTables.{Holds}
-use Rattle.until.specs.Consequences.{FactsBelow, GivesFresh, ByPair}
+use Rattle.until.specs.Consequences.{GivesFresh, ByPair}
 use Rattle.language.specs.Rules.{SymbolsBelow}
+use Rattle.language.specs.declared.rule.Rule.{Rule}
 use Rattle.until.proofs.rule_steps.add_fresh.Goals as goal
 use Rattle.until.proofs.rule_steps.add_fresh.Goals.{then-has-3, else-has-3}
 
 -- the rest of a lead rule is not live
 pub returns-else-has : goal.returns-else-has
 returns-else-has c =
-    subst (λ r. Joined (Holds c.args.found.now.rows) (Holds c.args.found.now.rows) (GivesFresh (ground c.args.model.now c.args.guard) r (Holds c.args.all.now.rows) (Holds c.args.fresh.now.rows))) (sym c.in-Lead.is)
-    (joined_same _ (λ f m. false≢true (c.if-has.ensures.1 (c.requires.live _ m.2.2.2))))
+    subst (λ r. Joined (Holds c.args.found.now.rows) (Holds c.args.found.now.rows) (GivesFresh c.args.guarded.now r (Holds c.args.parts.now.all.now.rows) (Holds c.args.parts.now.fresh.now.rows))) (sym c.in-Lead.is)
+    (joined_same _ (λ f m. false≢true (c.if-has.ensures.1 (c.args.parts.now.all_live _ m.2.2.2))))
 
 -- the body of a same rule is not live
 pub returns-else-has-2 : goal.returns-else-has-2
 returns-else-has-2 c =
-    subst (λ r. Joined (Holds c.args.found.now.rows) (Holds c.args.found.now.rows) (GivesFresh (ground c.args.model.now c.args.guard) r (Holds c.args.all.now.rows) (Holds c.args.fresh.now.rows))) (sym c.in-Same.is)
-    (joined_same _ (λ f m. false≢true (c.if-has-2.ensures.1 (c.requires.live _ m.1))))
+    subst (λ r. Joined (Holds c.args.found.now.rows) (Holds c.args.found.now.rows) (GivesFresh c.args.guarded.now r (Holds c.args.parts.now.all.now.rows) (Holds c.args.parts.now.fresh.now.rows))) (sym c.in-Same.is)
+    (joined_same _ (λ f m. false≢true (c.if-has-2.ensures.1 (c.args.parts.now.all_live _ m.1))))
 
 pub returns-then-has-4 : goal.returns-then-has-4
 returns-then-has-4 c =
-    let all = Holds c.args.all.now.rows in
-    let fresh = Holds c.args.fresh.now.rows in
+    let all = Holds c.args.parts.now.all.now.rows in
+    let fresh = Holds c.args.parts.now.fresh.now.rows in
     let first : Joined (Holds c.args.found.now.rows) (Holds c.if-has-3.found.rows) (ByPair c.in-Pair.head c.in-Pair.left c.in-Pair.right fresh all) = elim c.if-has-3.branch [
       | then-has-3 w ↦ joined_from {D = ByPair c.in-Pair.head c.in-Pair.left c.in-Pair.right fresh all} (λ (t : FactTable). Holds t.rows) (sym w.found-is) w.add_pair.ensures
-      | else-has-3 w ↦ joined_from {D = ByPair c.in-Pair.head c.in-Pair.left c.in-Pair.right fresh all} (λ (t : FactTable). Holds t.rows) (sym w.found-is) (joined_same (ByPair c.in-Pair.head c.in-Pair.left c.in-Pair.right fresh all) (λ f m. false≢true (w.if-has-3.ensures.1 (c.requires.live _ m.2))))
+      | else-has-3 w ↦ joined_from {D = ByPair c.in-Pair.head c.in-Pair.left c.in-Pair.right fresh all} (λ (t : FactTable). Holds t.rows) (sym w.found-is) (joined_same (ByPair c.in-Pair.head c.in-Pair.left c.in-Pair.right fresh all) (λ f m. false≢true (w.if-has-3.ensures.1 (c.args.parts.now.all_live _ m.2))))
     ] in
-    subst (λ r. Joined (Holds c.args.found.now.rows) (Holds c.add_pair-then-has-4.new.found.rows) (GivesFresh (ground c.args.model.now c.args.guard) r all fresh)) (sym c.in-Pair.is)
+    subst (λ r. Joined (Holds c.args.found.now.rows) (Holds c.add_pair-then-has-4.new.found.rows) (GivesFresh c.args.guarded.now r all fresh)) (sym c.in-Pair.is)
     (joined_both (ByPair c.in-Pair.head c.in-Pair.left c.in-Pair.right fresh all) (ByPair c.in-Pair.head c.in-Pair.left c.in-Pair.right all fresh) first c.add_pair-then-has-4.ensures)
 
 pub returns-else-has-4 : goal.returns-else-has-4
 returns-else-has-4 c =
-    let all = Holds c.args.all.now.rows in
-    let fresh = Holds c.args.fresh.now.rows in
+    let all = Holds c.args.parts.now.all.now.rows in
+    let fresh = Holds c.args.parts.now.fresh.now.rows in
     let first : Joined (Holds c.args.found.now.rows) (Holds c.if-has-3.found.rows) (ByPair c.in-Pair.head c.in-Pair.left c.in-Pair.right fresh all) = elim c.if-has-3.branch [
       | then-has-3 w ↦ joined_from {D = ByPair c.in-Pair.head c.in-Pair.left c.in-Pair.right fresh all} (λ (t : FactTable). Holds t.rows) (sym w.found-is) w.add_pair.ensures
-      | else-has-3 w ↦ joined_from {D = ByPair c.in-Pair.head c.in-Pair.left c.in-Pair.right fresh all} (λ (t : FactTable). Holds t.rows) (sym w.found-is) (joined_same (ByPair c.in-Pair.head c.in-Pair.left c.in-Pair.right fresh all) (λ f m. false≢true (w.if-has-3.ensures.1 (c.requires.live _ m.2))))
+      | else-has-3 w ↦ joined_from {D = ByPair c.in-Pair.head c.in-Pair.left c.in-Pair.right fresh all} (λ (t : FactTable). Holds t.rows) (sym w.found-is) (joined_same (ByPair c.in-Pair.head c.in-Pair.left c.in-Pair.right fresh all) (λ f m. false≢true (w.if-has-3.ensures.1 (c.args.parts.now.all_live _ m.2))))
     ] in
-    subst (λ r. Joined (Holds c.args.found.now.rows) (Holds c.if-has-3.found.rows) (GivesFresh (ground c.args.model.now c.args.guard) r all fresh)) (sym c.in-Pair.is)
-    (joined_both (ByPair c.in-Pair.head c.in-Pair.left c.in-Pair.right fresh all) (ByPair c.in-Pair.head c.in-Pair.left c.in-Pair.right all fresh) first (joined_same (ByPair c.in-Pair.head c.in-Pair.left c.in-Pair.right all fresh) (λ f m. false≢true (c.if-has-4.ensures.1 (c.requires.live _ m.3)))))
+    subst (λ r. Joined (Holds c.args.found.now.rows) (Holds c.if-has-3.found.rows) (GivesFresh c.args.guarded.now r all fresh)) (sym c.in-Pair.is)
+    (joined_both (ByPair c.in-Pair.head c.in-Pair.left c.in-Pair.right fresh all) (ByPair c.in-Pair.head c.in-Pair.left c.in-Pair.right all fresh) first (joined_same (ByPair c.in-Pair.head c.in-Pair.left c.in-Pair.right all fresh) (λ f m. false≢true (c.if-has-4.ensures.1 (c.args.parts.now.all_live _ m.3)))))
 
 pub returns-in-Empty : goal.returns-in-Empty
 returns-in-Empty c =
-    subst (λ r. Joined (Holds c.args.found.now.rows) (Holds c.args.found.now.rows) (GivesFresh (ground c.args.model.now c.args.guard) r (Holds c.args.all.now.rows) (Holds c.args.fresh.now.rows))) (sym c.in-Empty.is)
-    (joined_same _ (λ f m. m))
-
-pub returns-in-Letter : goal.returns-in-Letter
-returns-in-Letter c =
-    subst (λ r. Joined (Holds c.args.found.now.rows) (Holds c.args.found.now.rows) (GivesFresh (ground c.args.model.now c.args.guard) r (Holds c.args.all.now.rows) (Holds c.args.fresh.now.rows))) (sym c.in-Letter.is)
-    (joined_same _ (λ f m. m))
+    let found = Holds c.args.found.now.rows in
+    let nothing : Rule → Type 0 = λ r. Joined found found (GivesFresh c.args.guarded.now r (Holds c.args.parts.now.all.now.rows) (Holds c.args.parts.now.fresh.now.rows)) in
+    ⊎_elim (λ e. subst nothing (sym e.1) (joined_same _ (λ f m. m))) (λ e. subst nothing (sym e.2) (joined_same _ (λ f m. m))) c.in-Empty.is
 
 pub returns-then-has : goal.returns-then-has
-returns-then-has c = subst (λ r. Joined (Holds c.args.found.now.rows) (Holds c.add_led.new.found.rows) (GivesFresh (ground c.args.model.now c.args.guard) r (Holds c.args.all.now.rows) (Holds c.args.fresh.now.rows))) (sym c.in-Lead.is) c.add_led.ensures
+returns-then-has c = subst (λ r. Joined (Holds c.args.found.now.rows) (Holds c.add_led.new.found.rows) (GivesFresh c.args.guarded.now r (Holds c.args.parts.now.all.now.rows) (Holds c.args.parts.now.fresh.now.rows))) (sym c.in-Lead.is) c.add_led.ensures
 
 pub returns-then-has-2 : goal.returns-then-has-2
-returns-then-has-2 c = subst (λ r. Joined (Holds c.args.found.now.rows) (Holds c.add_same.new.found.rows) (GivesFresh (ground c.args.model.now c.args.guard) r (Holds c.args.all.now.rows) (Holds c.args.fresh.now.rows))) (sym c.in-Same.is) c.add_same.ensures
-
-pub add_led-requires : goal.add_led-requires
-add_led-requires c =
-    let w = subst (SymbolsBelow 16) c.in-Lead.is c.requires.rule in
-    (w.0, w)
+returns-then-has-2 c = subst (λ r. Joined (Holds c.args.found.now.rows) (Holds c.add_same.new.found.rows) (GivesFresh c.args.guarded.now r (Holds c.args.parts.now.all.now.rows) (Holds c.args.parts.now.fresh.now.rows))) (sym c.in-Same.is) c.add_same.ensures
 
 pub add_same-requires : goal.add_same-requires
 add_same-requires c =
-    let w = subst (SymbolsBelow 16) c.in-Same.is c.requires.rule in
-    let is = sym c.states.ensures in
-    (w.0, (w.1, (subst (λ n. n ≤ 32) is c.args.model.now.few_states, subst (λ n. FactsBelow 16 n (Holds c.args.fresh.now.rows)) is c.requires.fresh)))
+    let w = subst (SymbolsBelow 16) c.in-Same.is c.requires in
+    let parts = c.args.parts.now in
+    record { head = w.0; body = w.1; states = parts.few_states; bodies = parts.fresh_below }
 
 pub add_pair-requires : goal.add_pair-requires
 add_pair-requires c =
-    let w = subst (SymbolsBelow 16) c.in-Pair.is c.requires.rule in
-    let is = sym c.states-then-has-3.ensures in
-    record {
-      few = (w.0, (w.1, (w.2, subst (λ n. n ≤ 32) is c.args.model.now.few_states)));
-      firsts = subst (λ n. FactsBelow 16 n (Holds c.args.fresh.now.rows)) is c.requires.fresh;
-      seconds = subst (λ n. FactsBelow 16 n (Holds c.args.all.now.rows)) is c.requires.all;
-    }
+    let w = subst (SymbolsBelow 16) c.in-Pair.is c.requires in
+    let parts = c.args.parts.now in
+    record { head = w.0; left = w.1; right = w.2; states = parts.few_states; firsts = parts.fresh_below; seconds = parts.all_below }
 
 pub add_pair-requires-then-has-4 : goal.add_pair-requires-then-has-4
 add_pair-requires-then-has-4 c =
-    let w = subst (SymbolsBelow 16) c.in-Pair.is c.requires.rule in
-    let is = sym c.states-then-has-4.ensures in
-    record {
-      few = (w.0, (w.1, (w.2, subst (λ n. n ≤ 32) is c.args.model.now.few_states)));
-      firsts = subst (λ n. FactsBelow 16 n (Holds c.args.all.now.rows)) is c.requires.all;
-      seconds = subst (λ n. FactsBelow 16 n (Holds c.args.fresh.now.rows)) is c.requires.fresh;
-    }
+    let w = subst (SymbolsBelow 16) c.in-Pair.is c.requires in
+    let parts = c.args.parts.now in
+    record { head = w.0; left = w.1; right = w.2; states = parts.few_states; firsts = parts.all_below; seconds = parts.fresh_below }

@@ -3,10 +3,10 @@ use Rattle.std.specs.List.{slice_get}
 use Rattle.model.specs.declared.edge.Edge.{Edge}
 use Rattle.model.specs.Models.{edges_of}
 use Rattle.model.specs.Relations.{Joined, Upto}
-use Rattle.logic.specs.Facts.{ground}
+use Rattle.language.specs.Rules.{head_of}
 use Rattle.until.specs.FactTables.{Holds}
 use Rattle.until.specs.Consequences.{InRow, Led}
 use Rattle.until.proofs.rule_steps.add_led.Given as goal
 
 abbrev pub invariant-loop-edge : goal.invariant-loop-edge
-invariant-loop-edge l = Joined (Holds l.initial.found.rows) (Holds l.found.rows) (Upto (λ k f. (e : Edge) × (slice_get (edges_of l.model) k ≡ Some e) × InRow l.head e.from (Led (ground l.model l.guard) l.rule (Holds l.rests.rows) e) f) l.edge-index)
+invariant-loop-edge l = Joined (Holds l.initial.found.rows) (Holds l.found.rows) (Upto (λ k f. (e : Edge) × (slice_get (edges_of l.guarded.model) k ≡ Some e) × InRow (head_of l.rule) e.from (Led l.guarded l.rule (Holds l.rests.rows) e) f) l.edge-index)

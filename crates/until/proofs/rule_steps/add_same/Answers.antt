@@ -10,4 +10,4 @@ pub loop-from-preserved : goal.loop-from-preserved
 loop-from-preserved c = joined_more _ _ c.loop-from.invariant (same_row _ _ _ _ _ (omega arith) c.row.ensures c.add.ensures)
 
 pub returns : goal.returns
-returns c = rows_all _ _ (λ f d. omega (arith, (c.requires.1.1.1 _ d.1).1, c.loop-from-test.false)) c.loop-from.invariant
+returns c = rows_all _ _ (λ f d. omega (arith, (c.requires.bodies _ d.1).1, c.loop-from-test.false)) c.loop-from.invariant

@@ -15,5 +15,5 @@ pub returns-in-None : goal.returns-in-None
 returns-in-None c = through_all c.args.self.now.rows c.args.from c.loop-every.rest c.args.reached c.loop-every.found c.args.symbol c.in-None.ensures.0 c.loop-every.invariant.0
 
 pub returns : goal.returns
-returns c = through_every c.args.self.now.rows c.args.from c.args.reached c.loop-every.found c.below-every.result c.args.symbol c.args.states c.requires.few.1
+returns c = through_every c.args.self.now.rows c.args.from c.args.reached c.loop-every.found c.below-every.result c.args.symbol c.args.states c.requires.states
     (sym c.bits.ensures ∙ c.loop-every-test.false ∙ c.bits-in-loop-every.ensures) c.below-every.ensures c.requires.below c.loop-every.invariant.1 c.loop-every.invariant.0
