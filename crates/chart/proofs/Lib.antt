@@ -1,4 +1,3 @@
-pub mod Heights
 pub mod Rows
 pub mod Stretches
 pub mod Rooms

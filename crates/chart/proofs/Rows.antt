@@ -55,11 +55,3 @@ through_more rows rest rest' reached reached' row symbol place l is taken more j
   puts = λ t m. j.puts t (m.0, taken.keeps m.0 m.1, m.2);
   only = λ t m. ⊎_elim (λ h. inl (more.keeps t h)) (λ d. ⊎_elim (λ r. inr (d.0, r, d.2)) (λ e. inl (more.puts t (subst (λ n. Has n t) (sym is) (subst (λ u. Holds rows (symbol, u, t)) e d.2).1))) (taken.only d.0 d.1)) (j.only t m);
 }
-
--- symbols below k are below more
-pub symbols_more : (k n : ℕ) → k ≤ n → (r : Rule) → SymbolsBelow k r → SymbolsBelow n r
-symbols_more k n l (Empty H) s = omega arith
-symbols_more k n l (Letter H a) s = omega arith
-symbols_more k n l (Lead H a B) s = (omega (arith, s.0), omega (arith, s.1))
-symbols_more k n l (Same H B) s = (omega (arith, s.0), omega (arith, s.1))
-symbols_more k n l (Pair H B C) s = (omega (arith, s.0), omega (arith, s.1), omega (arith, s.2))

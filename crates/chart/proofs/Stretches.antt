@@ -11,7 +11,7 @@ use Rattle.language.specs.Derivations.{Yields, DerivesWithin, Derives}
 use Rattle.language.specs.declared.rule.Rule.{Rule}
 use Rattle.language.specs.declared.rule.Rule.TheVariants.{Empty, Letter, Lead, Same, Pair}
 use Rattle.chart.specs.Charts.{Triple, Spells, Stretch, Gives, ByRules}
-use Rattle.chart.proofs.Heights.{by_empty, by_letter, by_lead, by_same, by_pair}
+use Rattle.language.proofs.Heights.{by_empty, by_letter, by_lead, by_same, by_pair}
 
 module _ (w : Word) where
   pub spells_inside : (i : ℕ) (u : Word) (j : ℕ) → Spells w i u j → i ≤ length w

@@ -17,7 +17,7 @@ use Rattle.kinds.specs.Passing.{marked_below}
 use Rattle.kinds.specs.BracketWords.{other_action, others_of, told, BracketWords}
 use Rattle.kinds.specs.Members.{among_map, among_mapped}
 use Rattle.kinds.specs.Passed.{passing_few, passing_among, among_passing, passing_alike}
-use Rattle.chart.proofs.Heights.{by_empty, by_lead, by_pair, known_append}
+use Rattle.language.proofs.Heights.{by_empty, by_lead, by_pair, known_append}
 use Rattle.kinds.specs.Balance.{Closes, closes_none, closes_up, closes_down, closes_other, closes_append, up_closes, down_closes, down_never, other_closes}
 
 -- all marked but two

@@ -12,13 +12,9 @@ use Rattle.model.specs.Models.{HasEdge}
 use Rattle.logic.specs.Paths.{edge, Chain, end}
 use Rattle.logic.specs.Maximal.{Maximal, stopped, endless, before, state_at}
 
--- an edge of a model names states and an action that are there
-pub edge_inside : (m : Model) (e : Edge) → HasEdge m e → Inside m.states m.actions e
-edge_inside m = m.inside
-
 pub end_inside : (m : Model) (s : ℕ) (p : List Step) → s < m.states → Chain m s p → end s p < m.states
 end_inside m s [] l chain = l
-end_inside m s (x ∷ p) l (here, rest) = end_inside m x.state p (edge_inside m (edge s x) here).2 rest
+end_inside m s (x ∷ p) l (here, rest) = end_inside m x.state p (m.inside (edge s x) here).2 rest
 
 -- the first steps of a path are a path
 pub chain_take : (m : Model) (s : ℕ) (p : List Step) (n : ℕ) → Chain m s p → Chain m s (take n p)

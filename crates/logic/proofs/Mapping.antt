@@ -7,7 +7,7 @@ use Rattle.model.specs.declared.model.Model.{Model}
 use Rattle.language.specs.Words.{Word}
 use Rattle.logic.specs.Paths.{edge, Chain, Before, Good, SomeGood}
 use Rattle.logic.specs.Maximal.{Maximal, Keeps, SomeKeeps}
-use Rattle.logic.proofs.Inside.{edge_inside, end_inside, state_inside}
+use Rattle.logic.proofs.Inside.{end_inside, state_inside}
 
 -- one fact follows from another at each state of the model
 abbrev pub Follows : Model → (ℕ → Type 0) → (ℕ → Type 0) → Type 0
@@ -15,7 +15,7 @@ Follows m P Q = (t : ℕ) → t < m.states → P t → Q t
 
 pub before_map : (m : Model) (G G' : ℕ → Type 0) → Follows m G G' → (s : ℕ) → s < m.states → (p : List Step) → Chain m s p → Before G s p → Before G' s p
 before_map m G G' g s l [] chain held = tt
-before_map m G G' g s l (x ∷ p) (here, rest) (now, later) = (g s l now, before_map m G G' g x.state (edge_inside m (edge s x) here).2 p rest later)
+before_map m G G' g s l (x ∷ p) (here, rest) (now, later) = (g s l now, before_map m G G' g x.state (m.inside (edge s x) here).2 p rest later)
 
 module _ (m : Model) (G G' H H' : ℕ → Type 0) (W W' : Word → Type 0) (s : ℕ) (l : s < m.states) where
   pub good_map : Follows m G G' → Follows m H H' → ((w : Word) → W w → W' w) → (p : List Step) → Good m G H W s p → Good m G' H' W' s p

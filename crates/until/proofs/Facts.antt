@@ -8,21 +8,11 @@ use Rattle.language.specs.declared.rule.Rule.{Rule}
 use Rattle.language.specs.declared.rule.Rule.TheVariants.{Empty, Letter, Lead, Same, Pair}
 use Rattle.language.specs.Rules.{SymbolsBelow, RulesWithin}
 use Rattle.language.specs.Derivations.{Yields, DerivesWithin}
+use Rattle.language.proofs.Heights.{within_more}
 use Rattle.logic.specs.Paths.{word}
 use Rattle.logic.specs.Facts.{Triple, Ground, Guarded, FactWithin, Fact, LeastHeight}
 use Rattle.until.specs.Consequences.{Gives, GivesAlone, GivesFresh, ByRules, ByRulesAlone, ByRulesFresh, Lacking, FactsBelow}
-use Rattle.until.proofs.GuardedPaths.{word_append, edge_inside, guarded_start, guarded_end, guarded_append, guarded_split, guarded_edge}
-
--- rules over fewer symbols
-rule_within : (n k : ℕ) → n ≤ k → (r : Rule) → SymbolsBelow n r → SymbolsBelow k r
-rule_within n k l (Empty H) w = omega arith
-rule_within n k l (Letter H a) w = omega arith
-rule_within n k l (Lead H a B) w = omega arith
-rule_within n k l (Same H B) w = omega arith
-rule_within n k l (Pair H B C) w = omega arith
-
-pub rules_within : (n k : ℕ) (rules : List Rule) → n ≤ k → RulesWithin n rules → RulesWithin k rules
-rules_within n k rules l w r r∈ = rule_within n k l r (w r r∈)
+use Rattle.logic.proofs.GuardedPaths.{word_append, guarded_start, guarded_end, guarded_append, guarded_split, guarded_edge}
 
 -- more facts give more
 pub gives_mono : (g : Ground) (r : Rule) (F G : Triple → Type 0) → ((f : Triple) → F f → G f) → (f : Triple) → Gives g r F f → Gives g r G f
@@ -64,18 +54,6 @@ gives_split g (Lead H a B) F G N s f (e, e∈, (x, y, (q, h, b))) = ⊎_elim (λ
 gives_split g (Same H B) F G N s f (x, b) = ⊎_elim (λ o. inl (x, o)) (λ n. inr (x, n)) (s _ b)
 gives_split g (Pair H B C) F G N s f (x, u, b, d) = ⊎_elim (λ o. ⊎_elim (λ o'. inl (x, u, o, o')) (λ n. inr (inr (x, u, b, n))) (s _ d)) (λ n. inr (inl (x, u, n, d))) (s _ b)
 
--- derivations of one height more
-pub yields_mono : (r : Rule) (F G : ℕ → Word → Type 0) → ((X : ℕ) (w : Word) → F X w → G X w) → (X : ℕ) (w : Word) → Yields r F X w → Yields r G X w
-yields_mono (Empty H) F G up X w d = d
-yields_mono (Letter H a) F G up X w d = d
-yields_mono (Lead H a B) F G up X w (e, v, q, b) = (e, v, q, up _ _ b)
-yields_mono (Same H B) F G up X w (e, b) = (e, up _ _ b)
-yields_mono (Pair H B C) F G up X w (e, u, v, q, b, d) = (e, u, v, q, up _ _ b, up _ _ d)
-
-pub derives_more : (rules : List Rule) (h X : ℕ) (w : Word) → DerivesWithin rules h X w → DerivesWithin rules (suc h) X w
-derives_more rules zero X w d = absurd d
-derives_more rules (suc h) X w (r, r∈, y) = (r, r∈, yields_mono r _ _ (derives_more rules h) X w y)
-
 yields_head : (n : ℕ) (r : Rule) (F : ℕ → Word → Type 0) (X : ℕ) (w : Word) → SymbolsBelow n r → Yields r F X w → X < n
 yields_head n (Empty H) F X w l y = let e = y.0 in omega arith
 yields_head n (Letter H a) F X w l y = let e = y.0 in omega arith
@@ -100,7 +78,7 @@ module _ (g : Ground) (rules : List Rule) where
   pub fact_from : (h : ℕ) (r : Rule) (f : Triple) → Among r rules → Gives g r (FactWithin g rules h) f → FactWithin g rules (suc h) f
   fact_from h (Empty H) f r∈ (e, l, q) = ([], (l, q), (_, r∈, (e, refl)))
   fact_from h (Letter H a) f r∈ (e, e∈, (x, y, (ea, k, et))) =
-      (record { action = e.action; state = e.to } ∷ [], guarded_edge g e f.1 f.2 [] e∈ y k ((edge_inside g.model e e∈).2, sym et), (_, r∈, (x, ap (λ k. k ∷ []) ea)))
+      (record { action = e.action; state = e.to } ∷ [], guarded_edge g e f.1 f.2 [] e∈ y k ((g.model.inside e e∈).2, sym et), (_, r∈, (x, ap (λ k. k ∷ []) ea)))
   fact_from h (Lead H a B) f r∈ (e, e∈, (x, y, (ea, k, (q, w, d)))) =
       (record { action = e.action; state = e.to } ∷ q, guarded_edge g e f.1 f.2 q e∈ y k w, (_, r∈, (x, word g.model q, ap (λ k. k ∷ word g.model q) ea, d)))
   fact_from h (Same H B) f r∈ (x, (q, w, d)) = (q, w, (_, r∈, (x, d)))
@@ -130,7 +108,7 @@ module _ (g : Ground) (rules : List Rule) where
 
   -- a fact of some height has every greater height
   pub facts_keep : (h : ℕ) (f : Triple) → FactWithin g rules h f → FactWithin g rules (suc h) f
-  facts_keep h f w = (w.0, w.1, derives_more rules h f.0 (word g.model w.0) w.2)
+  facts_keep h f w = (w.0, w.1, within_more rules h f.0 (word g.model w.0) w.2)
 
   pub facts_up : (j h : ℕ) (f : Triple) → j ≤ h → FactWithin g rules j f → FactWithin g rules h f
   facts_up j zero f l w = let e : j ≡ 0 = omega arith in subst (λ k. FactWithin g rules k f) e w

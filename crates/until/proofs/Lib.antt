@@ -1,4 +1,3 @@
-pub mod GuardedPaths
 pub mod Facts
 pub mod Rows
 pub mod Sizes

@@ -2,7 +2,7 @@ use Rattle.std.proofs.Common.{◌≡◌, true, length, sym, subst, inr, arith}
 use Rattle.model.specs.Sets.{Has}
 use Rattle.language.specs.Derivations.{Derives}
 use Rattle.language.specs.Limits.{WithinLimits}
-use Rattle.chart.proofs.Heights.{derives_known}
+use Rattle.language.proofs.Heights.{derives_known}
 use Rattle.chart.proofs.Stretches.{whole_derived, derived_whole}
 use Rattle.chart.proofs.asking.derives.Goals as goal
 

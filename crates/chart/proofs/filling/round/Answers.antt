@@ -1,6 +1,6 @@
 use Rattle.std.proofs.Common.{◌∙◌}
 use Rattle.language.proofs.Coming.{coming_among, joined_next}
-use Rattle.chart.proofs.Rows.{symbols_more}
+use Rattle.language.proofs.Naming.{symbols_more}
 use Rattle.chart.proofs.filling.round.Goals as goal
 
 pub add_rule-requires-clause-symbols : goal.add_rule-requires-clause-symbols

@@ -1,10 +1,9 @@
 use Rattle.std.proofs.Common.{◌≡◌, ℕ, ◌+◌, ◌*◌, ◌<◌, get_or, sym, refl, ap, ◌∙◌, subst, inl, inr, arith}
-use Rattle.language.specs.Limits.{WithinLimits}
-use Rattle.language.specs.Rules.{RulesWithin}
+use Rattle.language.proofs.Naming.{rules_more}
 use Rattle.logic.specs.Facts.{FactWithin, LeastHeight}
 use Rattle.until.specs.FactTables.{Holds, spot}
 use Rattle.until.specs.Consequences.{FactsBelow}
-use Rattle.until.proofs.Facts.{rules_within, first_new, exact_below, lacking_below, height_joined, next_new, settled_all, entry_none, entry_more, entry_end}
+use Rattle.until.proofs.Facts.{first_new, exact_below, lacking_below, height_joined, next_new, settled_all, entry_none, entry_more, entry_end}
 use Rattle.until.proofs.Notes.{spot_below}
 use Rattle.until.proofs.Rows.{holds_dec}
 use Rattle.until.proofs.Sizes.{table_grows, table_same}
@@ -40,7 +39,7 @@ of-parts-requires-clause-all g c =
     let guarded = c.args.guarded.now in
     let rules = g.L.UntilLanguage.rules l in
     let limits = c.symbols.ensures.limits in
-    let named = rules_within _ 16 rules limits.few_symbols (g.met.L.UntilLanguage.symbols_known l limits.few_symbols limits.few_rules) in
+    let named = rules_more _ 16 rules limits.few_symbols (g.met.L.UntilLanguage.symbols_known l limits.few_symbols limits.few_rules) in
     let inv = c.loop-size.invariant in
     let next = height_joined guarded rules c.loop-size.round (Holds c.loop-size.all.rows) (Holds c.loop-size.fresh.rows) (Holds c.include.new.self.rows) (holds_dec _) inv.1 inv.2 c.include.ensures in
     rw c.states.ensures.count (exact_below guarded rules 16 (c.loop-size.round + 1) (Holds c.include.new.self.rows) named next)
@@ -51,7 +50,7 @@ of-parts-requires-clause-fresh g c =
     let guarded = c.args.guarded.now in
     let rules = g.L.UntilLanguage.rules l in
     let limits = c.symbols.ensures.limits in
-    let named = rules_within _ 16 rules limits.few_symbols (g.met.L.UntilLanguage.symbols_known l limits.few_symbols limits.few_rules) in
+    let named = rules_more _ 16 rules limits.few_symbols (g.met.L.UntilLanguage.symbols_known l limits.few_symbols limits.few_rules) in
     rw c.states.ensures.count (lacking_below guarded rules 16 (c.loop-size.round + 1) (Holds c.loop-size.fresh.rows) (FactWithin guarded rules c.loop-size.round) named c.loop-size.invariant.2)
 
 pub loop-size-preserved : goal.loop-size-preserved

@@ -5,7 +5,6 @@ use Rattle.model.specs.declared.edge.Edge.{Edge}
 use Rattle.model.specs.Edges.{no_edge}
 use Rattle.model.specs.Models.{edges_of}
 use Rattle.model.proofs.Joins.{joined_none, joined_more}
-use Rattle.logic.proofs.Inside.{edge_inside}
 use Rattle.until.proofs.Rows.{edge_more, among_all}
 use Rattle.until.proofs.rule_steps.add_led.Goals as goal
 
@@ -28,11 +27,11 @@ returns c = among_all (edges_of c.args.guarded.now.model) _ _ (omega (arith, ap 
 pub led-requires-clause-to : goal.led-requires-clause-to
 led-requires-clause-to c =
     let m = c.args.guarded.now.model in
-    let inside = edge_inside m _ (c.loop-edge.edge-index, placed (edges_of m) _ _ c.edges-edge-items.ensures c.loop-edge-test.true) in
+    let inside = m.inside _ (c.loop-edge.edge-index, placed (edges_of m) _ _ c.edges-edge-items.ensures c.loop-edge-test.true) in
     omega (arith, inside.2, m.few_states)
 
 pub add-requires-clause-from : goal.add-requires-clause-from
 add-requires-clause-from c =
     let m = c.args.guarded.now.model in
-    let inside = edge_inside m _ (c.loop-edge.edge-index, placed (edges_of m) _ _ c.edges-edge-items.ensures c.loop-edge-test.true) in
+    let inside = m.inside _ (c.loop-edge.edge-index, placed (edges_of m) _ _ c.edges-edge-items.ensures c.loop-edge-test.true) in
     omega (arith, inside.0, m.few_states)

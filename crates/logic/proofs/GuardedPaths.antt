@@ -3,16 +3,11 @@ use Rattle.std.proofs.Common.{◌≡◌, ℕ, suc, ◌<◌, List, [], ◌∷◌,
 use Rattle.model.specs.declared.edge.Edge.{Edge}
 use Rattle.model.specs.declared.edge.Step.{Step}
 use Rattle.model.specs.declared.model.Model.{Model}
-use Rattle.model.specs.Edges.{Inside}
 use Rattle.model.specs.Models.{HasEdge}
 use Rattle.model.specs.Sets.{Has}
 use Rattle.language.specs.Words.{Word}
 use Rattle.logic.specs.Paths.{edge, Chain, end, word, Before, Good, SomeGood}
 use Rattle.logic.specs.Facts.{Ground, Guarded}
-
--- an edge of a model names states and an action that are there
-pub edge_inside : (m : Model) (e : Edge) → HasEdge m e → Inside m.states m.actions e
-edge_inside m = m.inside
 
 -- the word of two paths, one after the other
 pub word_append : (m : Model) (p q : List Step) → word m (p ++ q) ≡ word m p ++ word m q
@@ -27,7 +22,7 @@ word_length m (x ∷ p) = ap suc (word_length m p)
 module _ (g : Ground) where
   pub guarded_start : (s t : ℕ) (p : List Step) → Guarded g s p t → s < g.model.states
   guarded_start s t [] w = w.0
-  guarded_start s t (x ∷ p) w = (edge_inside g.model (edge s x) w.1).0
+  guarded_start s t (x ∷ p) w = (g.model.inside (edge s x) w.1).0
 
   pub guarded_end : (s t : ℕ) (p : List Step) → Guarded g s p t → t < g.model.states
   guarded_end s t [] w = let l = w.0 in let e = w.1 in omega arith
@@ -68,7 +63,7 @@ module _ (g : Ground) where
   -- and the other way
   pub chain_guarded : (s : ℕ) (p : List Step) → s < g.model.states → Chain g.model s p → Before (Has g.guard) s p → Guarded g s p (end s p)
   chain_guarded s [] l c b = (l, refl)
-  chain_guarded s (x ∷ p) l c b = (b.0, c.0, chain_guarded x.state p (edge_inside g.model (edge s x) c.0).2 c.1 b.1)
+  chain_guarded s (x ∷ p) l c b = (b.0, c.0, chain_guarded x.state p (g.model.inside (edge s x) c.0).2 c.1 b.1)
 
   -- guarded paths into the goal are the good ones
   pub guarded_good : (H : ℕ → Type 0) (W : Word → Type 0) (s t : ℕ) (p : List Step) → Guarded g s p t → H t → W (word g.model p) → Good g.model (Has g.guard) H W s p
