@@ -6,7 +6,7 @@ ghost use Rattle.sheet.specs.Books.{model_of};
 ghost use Rattle.sheet.specs.Causes.{Full, CauseProposition, CauseNot, CauseOr, CausePair, CauseUntil, CauseRelease, CausePath, Unfit, told};
 
 use crate::sheet::Sheet;
-use language::{UntilLanguage, Watcher};
+use language::{Fitting, UntilLanguage, Watcher};
 use model::{NumberSet, Refusal};
 
 impl Sheet<'_> {
@@ -56,39 +56,41 @@ impl Sheet<'_> {
         Ok(pair)
     }
 
-    pub(crate) fn check_language<L: UntilLanguage>(
+    // The language, for a search with a work table of so many entries.
+    pub(crate) fn fitting<'l, L: UntilLanguage>(
         &self,
-        language: &L,
+        language: &'l L,
         work: usize,
-    ) -> Result<(), Refusal>
-        ensures { Unfit (model_of self.now) (told (L.Alphabet.known language.now) (L.UntilLanguage.symbols language.now) (L.UntilLanguage.rules language.now)) work Accept (refusal result) }
+    ) -> Result<Fitting<'l, L>, Refusal>
+        ensures same { IfOk result (λ f. f ≡ language.now) }
+        ensures cause { Unfit (model_of self.now) (told (L.Alphabet.known language.now) (L.UntilLanguage.symbols language.now) (L.UntilLanguage.rules language.now)) work Accept (refusal result) }
     {
         if language.action_count() != self.model.actions() {
             return Err(Refusal::OtherAlphabet);
         }
-        let symbols = language.symbol_count();
-        if symbols > 16 || language.rule_count() > 128 {
-            return Err(Refusal::TooLarge);
-        }
+        let fitting = Fitting::of(language)?;
         let states = self.model.states() as usize;
-        if work < symbols * states * states {
+        if work < fitting.symbols() as usize * states * states {
             return Err(Refusal::WorkTooShort);
         }
-        Ok(())
+        Ok(fitting)
     }
 
-    pub(crate) fn until_parts<L: UntilLanguage>(
+    // The language and the marks of guard and goal, for an until call.
+    pub(crate) fn until_parts<'l, L: UntilLanguage>(
         &self,
         guard: usize,
         goal: usize,
-        language: &L,
+        language: &'l L,
         work: usize,
-    ) -> Result<(NumberSet, NumberSet), Refusal>
+    ) -> Result<(Fitting<'l, L>, (NumberSet, NumberSet)), Refusal>
         ensures cause { CauseUntil (model_of self.now) (told (L.Alphabet.known language.now) (L.UntilLanguage.symbols language.now) (L.UntilLanguage.rules language.now)) work guard goal (length self.now.questions.items) (refusal result) }
-        ensures marks { IfOk result (λ x. MarksOf self.now.questions.items guard goal x) }
+        ensures same { IfOk result (λ x. x.0 ≡ language.now) }
+        ensures marks { IfOk result (λ x. MarksOf self.now.questions.items guard goal x.1) }
     {
-        self.check_language(language, work)?;
-        self.parts(guard, goal)
+        let fitting = self.fitting(language, work)?;
+        let marks = self.parts(guard, goal)?;
+        Ok((fitting, marks))
     }
 
     pub(crate) fn release_parts<W: Watcher>(
@@ -110,26 +112,28 @@ impl Sheet<'_> {
     }
 
     // All causes of a path call but the last, which only the search can tell.
-    pub(crate) fn path_parts<L: UntilLanguage>(
+    pub(crate) fn path_parts<'l, L: UntilLanguage>(
         &self,
         guard: usize,
         goal: usize,
-        language: &L,
+        language: &'l L,
         state: u8,
         work: usize,
         waiting: usize,
         steps: usize,
-    ) -> Result<(NumberSet, NumberSet), Refusal>
+    ) -> Result<(Fitting<'l, L>, (NumberSet, NumberSet)), Refusal>
         ensures cause { CausePath (model_of self.now) (told (L.Alphabet.known language.now) (L.UntilLanguage.symbols language.now) (L.UntilLanguage.rules language.now)) work waiting steps guard goal state (λ _. ⊥) (length self.now.questions.items) (refusal result) }
-        ensures marks { IfOk result (λ x. MarksOf self.now.questions.items guard goal x) }
+        ensures same { IfOk result (λ x. x.0 ≡ language.now) }
+        ensures marks { IfOk result (λ x. MarksOf self.now.questions.items guard goal x.1) }
     {
         if state >= self.model.states() {
             return Err(Refusal::NoSuchState);
         }
-        self.check_language(language, work)?;
+        let fitting = self.fitting(language, work)?;
         if waiting < steps {
             return Err(Refusal::MemoryTooShort);
         }
-        self.pair(guard, goal)
+        let marks = self.pair(guard, goal)?;
+        Ok((fitting, marks))
     }
 }

@@ -6,6 +6,7 @@ ghost use Rattle.sheet.specs.Witnesses.{Witnessed, Unless24};
 use crate::sheet::Sheet;
 use language::UntilLanguage;
 use least::Fact;
+use logic::GuardedModel;
 use model::{Refusal, Step};
 use path::shortest;
 use until::satisfying;
@@ -26,7 +27,7 @@ impl Sheet<'_> {
         ensures answer { Witnessed self.now (told (L.Alphabet.known language.now) (L.UntilLanguage.symbols language.now) (L.UntilLanguage.rules language.now)) (L.UntilLanguage.words language.now) (length work.old) (length waiting.old) steps.old steps.new guard goal state result }
         ensures scratch { Unless24 result ((work.new ≡ work.old) × (waiting.new ≡ waiting.old)) }
     {
-        let (holds, reached) = self.path_parts(
+        let (fitting, (holds, reached)) = self.path_parts(
             guard,
             goal,
             language,
@@ -35,7 +36,8 @@ impl Sheet<'_> {
             waiting.len(),
             steps.len(),
         )?;
-        let some = satisfying(language, self.model, holds, reached, work);
+        let guarded = GuardedModel::of(self.model, holds);
+        let some = satisfying(&fitting, &guarded, reached, work);
         shortest(
             language, self.model, holds, reached, some, state, work, waiting, steps,
         )

@@ -12,6 +12,7 @@ ghost use Rattle.sheet.specs.declared.question.Form.TheVariants.{Until as UntilF
 use crate::question::Form;
 use crate::sheet::Sheet;
 use language::UntilLanguage;
+use logic::GuardedModel;
 use model::Refusal;
 use until::satisfying;
 
@@ -28,8 +29,9 @@ impl Sheet<'_> {
         ensures asked { Asked self.old self.new (CauseUntil (model_of self.old) (told (L.Alphabet.known language.now) (L.UntilLanguage.symbols language.now) (L.UntilLanguage.rules language.now)) (length work.old) guard goal) (UntilForm guard goal) (λ s. (s < (model_of self.old).states) × SomeGood (model_of self.old) (Has (at self.old.questions.items guard).marks) (Has (at self.old.questions.items goal).marks) (L.UntilLanguage.words language.now) s) (λ book. until_of (formula book guard) (formula book goal) (L.UntilLanguage.rules language.now)) result }
         ensures work { OnErr result (work.new ≡ work.old) }
     {
-        let (holds, reached) = self.until_parts(guard, goal, language, work.len())?;
-        let marks = satisfying(language, self.model, holds, reached, work);
+        let (fitting, (holds, reached)) = self.until_parts(guard, goal, language, work.len())?;
+        let guarded = GuardedModel::of(self.model, holds);
+        let marks = satisfying(&fitting, &guarded, reached, work);
         Ok(self.add(Form::Until(guard, goal), marks))
     }
 }

@@ -2,7 +2,6 @@ use Rattle.std.proofs.Common.{◌≡◌, ℕ, ◌+◌, ◌*◌, ◌<◌, get_or,
 use Rattle.language.proofs.Naming.{rules_more}
 use Rattle.logic.specs.Facts.{FactWithin, LeastHeight}
 use Rattle.until.specs.FactTables.{Holds, spot}
-use Rattle.until.specs.Consequences.{FactsBelow}
 use Rattle.until.proofs.Facts.{first_new, exact_below, lacking_below, height_joined, next_new, settled_all, entry_none, entry_more, entry_end}
 use Rattle.until.proofs.Notes.{spot_below}
 use Rattle.until.proofs.Rows.{holds_dec}

@@ -1,4 +1,4 @@
-use Rattle.std.proofs.Common.{◌+◌, arith}
+use Rattle.std.proofs.Common.{arith}
 use Rattle.until.proofs.Notes.{written_none, written_like, row_written, row_to_below, place_below}
 use Rattle.until.proofs.noting.note_symbol.Goals as goal
 

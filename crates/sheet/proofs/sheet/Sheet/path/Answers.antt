@@ -6,32 +6,32 @@ use Rattle.sheet.proofs.Chains.{searchable}
 use Rattle.sheet.proofs.Witnessing.{witnessed_stopped, witnessed_shown, shown_unless}
 use Rattle.sheet.proofs.sheet.Sheet.path.Goals as goal
 
-pub returns-in_err-holds : goal.returns-in_err-holds
-returns-in_err-holds g c =
+pub returns-in_err-fitting : goal.returns-in_err-fitting
+returns-in_err-fitting g c =
     let p = err_from_is_err_and c.from_residual.result c.from_residual.ensures.1 in
-    rw (p.1, p.2) (record { answer = witnessed_stopped _ _ _ _ _ _ _ _ _ _ _ c.in_err-holds.ensures.cause refl; scratch = λ _. (refl, refl) })
+    rw (p.1, p.2) (record { answer = witnessed_stopped _ _ _ _ _ _ _ _ _ _ _ c.in_err-fitting.ensures.cause refl; scratch = λ _. (refl, refl) })
 
 pub shortest-requires : goal.shortest-requires
 shortest-requires g c =
-    let free = c.in_ok-holds.ensures.cause in
+    let free = c.in_ok-fitting.ensures.cause in
     let language = c.args.language.now in
     let tells : Told = told (g.L.Alphabet.known language) (g.L.UntilLanguage.symbols language) (g.L.UntilLanguage.rules language) in
     let may = searchable (model_of c.args.self.now) tells _ _ _ _ _ _ _ free in
     record {
       sizes = (may.symbols, (may.rules, may.state));
       lent = (omega (arith, c.satisfying-some.auto.work, may.room), may.memory);
-      marks = c.satisfying-some.ensures.derived;
+      marks = rw (c.of-guarded.ensures, c.in_ok-fitting.ensures.same) at c.satisfying-some.ensures.derived;
     }
 
 pub returns : goal.returns
 returns g c =
-    let free = c.in_ok-holds.ensures.cause in
+    let free = c.in_ok-fitting.ensures.cause in
     let language = c.args.language.now in
     let tells : Told = told (g.L.Alphabet.known language) (g.L.UntilLanguage.symbols language) (g.L.UntilLanguage.rules language) in
     let may = searchable (model_of c.args.self.now) tells _ _ _ _ _ _ _ free in
     let laws = g.met.L.UntilLanguage in
     record {
-      answer = witnessed_shown _ tells _ _ _ _ _ _ _ _ _ _ c.in_ok-holds.ensures.marks free
+      answer = witnessed_shown _ tells _ _ _ _ _ _ _ _ _ _ c.in_ok-fitting.ensures.marks free
           (λ w. laws.derived language w may.symbols may.rules) (λ w. laws.only_derived language w may.symbols may.rules) c.shortest.result c.shortest.ensures;
       scratch = shown_unless _ _ _ _ _ _ _ _ c.shortest.result _ c.shortest.ensures;
     }
