@@ -9,11 +9,8 @@ pub fn actions_below(rule: Rule, n: u8) -> bool
     ensures { Decides result (ActionsBelow n rule) }
 {
     match rule {
-        Rule::Letter { action, .. } => action < n,
-        Rule::Lead { action, .. } => action < n,
-        Rule::Empty { .. } => true,
-        Rule::Same { .. } => true,
-        Rule::Pair { .. } => true,
+        Rule::Letter { action, .. } | Rule::Lead { action, .. } => action < n,
+        Rule::Empty { .. } | Rule::Same { .. } | Rule::Pair { .. } => true,
     }
 }
 
@@ -22,8 +19,7 @@ pub fn symbols_below(rule: Rule, k: u8) -> bool
     ensures { Decides result (SymbolsBelow k rule) }
 {
     match rule {
-        Rule::Empty { head } => head < k,
-        Rule::Letter { head, .. } => head < k,
+        Rule::Empty { head } | Rule::Letter { head, .. } => head < k,
         Rule::Lead { head, rest, .. } => head < k && rest < k,
         Rule::Same { head, body } => head < k && body < k,
         Rule::Pair { head, left, right } => head < k && left < k && right < k,
