@@ -1,5 +1,5 @@
 -- Relations between what holds before and after a step, over any kind of thing.
-use Rattle.std.specs.Prelude.{◌≡◌, ℕ, ◌<◌, ◌⊎◌, List, Some, ◌≢◌, slice_index_or}
+use Rattle.std.specs.Prelude.{◌≡◌, ℕ, ◌<◌, ◌⊎◌, List, Some}
 use Rattle.std.specs.List.{slice_get}
 
 -- x is one of the elements of the list
@@ -19,10 +19,6 @@ Upto step n x = (k : ℕ) × (k < n) × step k x
 -- the two say the same of everything
 abbrev pub Exactly : {X : Type 0} → (X → Type 0) → (X → Type 0) → Type 0
 Exactly {X} P Q = (x : X) → (P x → Q x) × (Q x → P x)
-
--- no two of the first n elements are equal
-abbrev pub Distinct : {X : Type 0} → X → List X → ℕ → Type 0
-Distinct d xs n = (i j : ℕ) → i < j → j < n → slice_index_or xs i d ≢ slice_index_or xs j d
 
 -- no two of the elements are equal
 abbrev pub IsDistinct : {X : Type 0} → List X → Type 0
