@@ -11,15 +11,18 @@ use std::marker::Model;
 pub struct Rules<'a, L: UntilLanguage> {
     language: &'a L,
     place: usize,
+    count: usize,
 }
 
 impl<'a, L: UntilLanguage> Model for Rules<'a, L> {
-    ghost use Rattle.std.specs.Prelude.{List, drop};
+    ghost use Rattle.std.specs.Prelude.{◌≡◌, List, drop, length};
     ghost use Rattle.language.specs.declared.rule.Rule.{Rule};
 
     ghost Value = { List Rule };
 
     ghost view = { λ s. drop s.place (L.rules s.language.now) };
+
+    ghost invariant = { λ s. s.count ≡ length (L.rules s.language.now) };
 }
 
 impl<'a, L: UntilLanguage> Rules<'a, L> {
@@ -27,7 +30,11 @@ impl<'a, L: UntilLanguage> Rules<'a, L> {
     pub fn of(language: &'a L) -> Rules<'a, L>
         ensures { result ≡ L.rules language.now }
     {
-        Rules { language, place: 0 }
+        Rules {
+            language,
+            place: 0,
+            count: language.rule_count(),
+        }
     }
 }
 
@@ -39,7 +46,7 @@ impl<'a, L: UntilLanguage> Iterator for Rules<'a, L> {
     ghost remaining = { item_count (λ rest. rest) };
 
     fn next(&mut self) -> Option<Rule> {
-        if self.place >= self.language.rule_count() {
+        if self.place >= self.count {
             return None;
         }
         let rule = self.language.rule(self.place);

@@ -5,5 +5,5 @@ use Rattle.language.proofs.rules.RulesIterator.next.Goals as goal
 pub returns-clause-steps : goal.returns-clause-steps
 returns-clause-steps g c =
     let rules = g.L.UntilLanguage.rules c.self.inside.language.now in
-    let inside : c.self.inside.place < length rules = omega (arith, c.rule_count.ensures, c.if-self-rule_count.false) in
+    let inside : c.self.inside.place < length rules = omega (arith, c.self.invariant, c.if-self.false) in
     rw (← c.self.view_is) (first_from rules c.self.inside.place c.rule-rule.result inside c.rule-rule.ensures)
