@@ -7,14 +7,6 @@ use Rattle.language.specs.Tables.{Accepts}
 use Rattle.release.proofs.Dooms.{released, released_words, states_without}
 use Rattle.release.proofs.search.keeping.Goals as goal
 
-pub doomed-found-requires : goal.doomed-found-requires
-doomed-found-requires g c =
-    let m = c.args.model.now in
-    record { small = c.requires.small; alphabet = c.requires.alphabet; room = mul-le m.states (g.W.Watcher.table c.args.watcher.now).states 32 32 m.few_states c.requires.small }
-
-pub row-requires : goal.row-requires
-row-requires g c = omega (arith, c.start.ensures, c.requires.small, (g.met.W.Watcher.complete c.args.watcher.now c.requires.small).starts)
-
 pub returns : goal.returns
 returns g c =
     let m = c.args.model.now in

@@ -1,13 +1,10 @@
 use Rattle.std.proofs.Common.{◌≡◌, ℕ, subst, arith}
 use Rattle.model.specs.Relations.{Joined}
-use Rattle.model.proofs.Joins.{joined_none, joined_more}
+use Rattle.model.proofs.Joins.{joined_more}
 use Rattle.walks.proofs.Walks.{step_below}
 use Rattle.charts.specs.Arrows.{Shows}
-use Rattle.charts.proofs.Drawings.{step_there, steps_from}
+use Rattle.charts.proofs.Drawings.{step_there}
 use Rattle.charts.proofs.charts.making.add_steps.Goals as goal
-
-pub loop-action-init : goal.loop-action-init
-loop-action-init g c = joined_none _
 
 pub step_of-requires : goal.step_of-requires
 step_of-requires g c = step_there c.args.actions (g.W.Watcher.table c.args.watcher.now) c.requires.complete c.args.watch c.loop-action.action c.requires.watch c.loop-action-test.true
@@ -20,6 +17,3 @@ add-requires-clause-state g c =
 pub loop-action-preserved : goal.loop-action-preserved
 loop-action-preserved g c = joined_more _ c.loop-action.action c.loop-action.invariant
     (subst (λ (r : ℕ). Joined (Shows c.loop-action.arrows.rows) (Shows c.add.new.self.rows) (λ x. x ≡ (c.loop-action.action, r, c.args.watch))) c.step_of.ensures c.add.ensures)
-
-pub returns : goal.returns
-returns g c = steps_from c.args.actions (g.W.Watcher.table c.args.watcher.now) c.args.watch c.loop-action.action c.loop-action-test.false c.loop-action.auto.action-end c.loop-action.invariant

@@ -1,7 +1,6 @@
-use Rattle.std.proofs.Common.{ℕ, arith}
+use Rattle.std.proofs.Common.{ℕ}
 use Rattle.model.specs.declared.edge.Edge.{Edge}
-use Rattle.model.proofs.Joins.{joined_none}
-use Rattle.charts.proofs.Drawings.{edge_at, arrow_each, arrows_all, into_exact, out_exact}
+use Rattle.charts.proofs.Drawings.{arrow_each, arrows_all, into_exact, out_exact}
 use Rattle.charts.proofs.charts.making.arrows_of_edges.Goals as goal
 
 abbrev to_from : Edge → ℕ × ℕ × ℕ
@@ -9,9 +8,6 @@ to_from e = (e.action, e.to, e.from)
 
 abbrev from_to : Edge → ℕ × ℕ × ℕ
 from_to e = (e.action, e.from, e.to)
-
-pub loop-edge-init : goal.loop-edge-init
-loop-edge-init c = record { into = joined_none _; out = joined_none _ }
 
 pub loop-edge-preserved : goal.loop-edge-preserved
 loop-edge-preserved c =
@@ -21,18 +17,6 @@ loop-edge-preserved c =
       into = arrow_each m edges.result.now edges.ensures to_from c.loop-edge.edge-index c.loop-edge-test.true c.loop-edge.invariant.into c.add.ensures;
       out = arrow_each m edges.result.now edges.ensures from_to c.loop-edge.edge-index c.loop-edge-test.true c.loop-edge.invariant.out c.add-in-loop-edge.ensures;
     }
-
-pub add-requires : goal.add-requires
-add-requires c =
-    let m = c.args.model.now in
-    let (a, b, d) = edge_at m c.edges-edge-items.result.now c.edges-edge-items.ensures c.loop-edge.edge-index c.loop-edge-test.true in
-    record { action = omega (arith, b, m.few_actions); state = omega (arith, d, m.few_states); other = omega (arith, a, m.few_states) }
-
-pub add-requires-in-loop-edge : goal.add-requires-in-loop-edge
-add-requires-in-loop-edge c =
-    let m = c.args.model.now in
-    let (a, b, d) = edge_at m c.edges-edge-items.result.now c.edges-edge-items.ensures c.loop-edge.edge-index c.loop-edge-test.true in
-    record { action = omega (arith, b, m.few_actions); state = omega (arith, a, m.few_states); other = omega (arith, d, m.few_states) }
 
 pub returns : goal.returns
 returns c =

@@ -7,9 +7,6 @@ use Rattle.positions.proofs.Beginnings.{begun_none, begun_not, begun_here}
 use Rattle.positions.proofs.search.Search.doom_marked.Goals as goal
 use Rattle.positions.proofs.search.Search.doom_marked.Goals.{then-is_marked, else-is_marked}
 
-pub loop-watch-init : goal.loop-watch-init
-loop-watch-init g c = begun_none (Has c.args.states) c.args.self.now c.requires.new
-
 pub doom_states-requires-clause-new : goal.doom_states-requires-clause-new
 doom_states-requires-clause-new g c = λ s h x. let b = (c.loop-watch.invariant.bad (s, c.loop-watch.watch)).0 x in omega (arith, b.0)
 

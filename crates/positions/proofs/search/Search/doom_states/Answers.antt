@@ -7,9 +7,6 @@ use Rattle.positions.proofs.Findings.{laid_like}
 use Rattle.positions.proofs.Turns.{finds_none, finds_taken}
 use Rattle.positions.proofs.search.Search.doom_states.Goals as goal
 
-pub loop-state-init : goal.loop-state-init
-loop-state-init g c = record { found = finds_none c.args.self.now c.args.watch c.args.states; inside = λ s h. h }
-
 pub doom-requires : goal.doom-requires
 doom-requires g c =
     let s = c.in-Some.state in
@@ -19,21 +16,4 @@ doom-requires g c =
     record {
       inside = subst (λ x. IsInside x (record { state = s; watch = c.args.watch })) (sym inv.found.same) (c.requires.states s there, c.requires.watch);
       new = λ h. ⊎_elim (c.requires.new s there) (λ m. m.2 has) (inv.found.laid.found.only (s, c.args.watch) h);
-    }
-
-pub loop-state-preserved : goal.loop-state-preserved
-loop-state-preserved g c =
-    let E = c.in-Some.ensures in
-    let inv = c.loop-state.invariant in
-    record {
-      found = finds_taken c.args.self.now c.args.watch c.args.states c.loop-state.rest c.take_last.new.self c.in-Some.state c.loop-state.self c.doom.new.self E.1 E.3 inv.inside inv.found c.doom.ensures;
-      inside = λ s h. inv.inside s (E.1.keeps s h);
-    }
-
-pub returns : goal.returns
-returns g c =
-    let found = c.loop-state.invariant.found in
-    record {
-      same = found.same;
-      laid = laid_like (λ p m. (m.0, m.1)) (λ p m. (m.0, m.1, λ h. bit_none p.0 (subst (λ (x : NumberSet). Has x p.0) c.in_default.ensures.0 h))) found.laid;
     }

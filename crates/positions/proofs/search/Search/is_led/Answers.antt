@@ -19,20 +19,8 @@ loop-action-init g c =
     let s = c.args.self.now in
     record { same = refl; led = λ a l. s.noted (pair c.args.position) (omega (arith, c.requires.0, s.setting.model.now.few_states)) a (subst (λ n. a < n) c.get-action.ensures l) }
 
-pub is_led_by-requires : goal.is_led_by-requires
-is_led_by-requires g c =
-    let same = sym c.loop-action.invariant.same in
-    record { inside = subst (λ s. IsInside s.setting c.args.position) same c.requires; action = subst (λ s. c.loop-action.action < s.setting.model.now.actions) same (omega (arith, c.loop-action-test.true, c.actions-action-end.ensures)) }
-
-pub loop-action-preserved : goal.loop-action-preserved
-loop-action-preserved g c =
-    let inv = c.loop-action.invariant in
-    record { same = inv.same; led = below_more _ _ inv.led (subst (Leads (pair c.args.position) c.loop-action.action) inv.same (c.is_led_by.ensures.0 c.if-not-is_led_by.false)) }
-
-pub note-requires : goal.note-requires
-note-requires g c =
-    let s = c.args.self.now.setting in
-    record { state = omega (arith, c.requires.0, s.model.now.few_states); watch = omega (arith, c.requires.1, (charted s).small) }
+pub note-requires-clause-watch : goal.note-requires-clause-watch
+note-requires-clause-watch g c = omega (arith, c.requires.1, (charted c.args.self.now.setting).small)
 
 pub invariant_of-self-clause-noted : goal.invariant_of-self-clause-noted
 invariant_of-self-clause-noted g c =
