@@ -4,21 +4,27 @@ use Rattle.std.specs.List.{slice_get}
 use Rattle.std.proofs.lemmas.Option.{slice_get-get_or}
 use Rattle.model.specs.declared.edge.Edge.{Edge}
 use Rattle.model.specs.declared.model.Model.{Model}
+use Rattle.model.specs.declared.number_set.NumberSet.{NumberSet}
+use Rattle.model.specs.Sets.{Has}
+use Rattle.model.specs.Triples.{InRow}
 use Rattle.model.specs.Edges.{Inside, no_edge}
 use Rattle.model.specs.Models.{HasEdge, edges_of}
 use Rattle.model.specs.Relations.{Among, Joined, Upto, Exactly}
 use Rattle.model.proofs.Joins.{joined_more, joined_like, joined_exact, among_more, among_exact}
 use Rattle.language.specs.Tables.{Table, step, Complete}
-use Rattle.walks.proofs.Walks.{edge_inside}
 use Rattle.charts.specs.Arrows.{Into, Out, Back, BackFrom}
 
 pub triple_is : (x : ℕ × ℕ × ℕ) (a b c : ℕ) → x.0 ≡ a → x.1 ≡ b → x.2 ≡ c → ◌≡◌ {A = ℕ × ℕ × ℕ} x (a, b, c)
 triple_is x a b c e f g = let P : ℕ → ℕ → ℕ → ℕ × ℕ × ℕ = λ k m n. (k, m, n) in ap (λ n. P n x.1 x.2) e ∙ ap (λ n. P a n x.2) f ∙ ap (λ n. P a b n) g
 
+-- a row with one number more is one triple more
+pub one_more : (a b c : ℕ) (one : NumberSet) {P Q : ℕ × ℕ × ℕ → Type 0} → c < 32 → Exactly (Has one) (λ t. (t ≡ c) × (c < 32)) → Joined P Q (InRow a b (Has one)) → Joined P Q (λ x. x ≡ (a, b, c))
+one_more a b c one few is j = joined_like _ _ (λ x m. triple_is x a b c m.0 m.1 ((is x.2).0 m.2).0) (λ x e. (ap (λ z. z.0) e, ap (λ z. z.1) e, (is x.2).1 (ap (λ z. z.2) e, few))) j
+
 module _ (m : Model) (xs : List Edge) (is : xs ≡ edges_of m) where
   -- the edge at a place is one of the model's
   pub edge_at : (k : ℕ) → k < length xs → Inside m.states m.actions (get_or xs k no_edge)
-  edge_at k l = edge_inside m (get_or xs k no_edge) (k, subst (λ ys. slice_get ys k ≡ Some (get_or xs k no_edge)) is (slice_get-get_or xs k no_edge l))
+  edge_at k l = m.inside (get_or xs k no_edge) (k, subst (λ ys. slice_get ys k ≡ Some (get_or xs k no_edge)) is (slice_get-get_or xs k no_edge l))
 
   -- one arrow for each edge
   pub arrow_each : (arrow : Edge → ℕ × ℕ × ℕ) {P Q R : ℕ × ℕ × ℕ → Type 0} (k : ℕ) → k < length xs → Joined P Q (Upto (λ k x. (e : Edge) × (slice_get xs k ≡ Some e) × (x ≡ arrow e)) k) → Joined Q R (λ x. x ≡ arrow (get_or xs k no_edge))

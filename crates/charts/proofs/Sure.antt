@@ -1,18 +1,17 @@
 -- Charts that are merely said to be right are right: each of their facts can be decided.
-use Rattle.std.proofs.Common.{◌≡◌, ℕ, ◌+◌, ◌*◌, ◌/◌, ◌%◌, ◌^◌, ◌<◌, ◌⊎◌, List, get_or, Bool, true, false, Some, None, Option, refl, subst, inl, inr}
+use Rattle.std.proofs.Common.{◌≡◌, ℕ, ◌<◌, ◌⊎◌, Bool, true, false, Some, None, Option, refl, subst, inl, inr}
 use native.Mathlib.Decide.{dec_le, dec_lt, ℕ_discrete}
 use Rattle.std.proofs.lemmas.Grind.{not_there}
 use Rattle.model.specs.declared.edge.Edge.{Edge}
 use Rattle.model.specs.declared.edge.Step.{Step}
-use Rattle.model.specs.declared.number_set.NumberSet.{NumberSet}
 use Rattle.model.specs.declared.model.Model.{Model}
 use Rattle.model.specs.Models.{HasEdge, edges_of}
+use Rattle.model.proofs.TripleRows.{holds_dec}
 use Rattle.language.specs.Tables.{Table, step, Complete}
 use Rattle.logic.specs.Paths.{edge}
 use Rattle.walks.proofs.Walks.{seek}
-use Rattle.model.specs.Sets.{nothing}
 use Rattle.charts.specs.declared.charts.Charts.{Charts}
-use Rattle.charts.specs.Arrows.{Shows, Back, Charted}
+use Rattle.charts.specs.Arrows.{Back, Charted}
 
 pub sure : {P : Type 0} → Dec P → ((P → ⊥) → ⊥) → P
 sure (yes p) nn = p
@@ -60,9 +59,6 @@ edge_dec m e = go (seek e.from (λ x. (x.action ≡ e.action) × (x.state ≡ e.
     go (inl (x, h, (a, b))) = yes (subst (λ k. HasEdge m (record { from = e.from; action = k; to = e.to })) a (subst (λ k. HasEdge m (record { from = e.from; action = x.action; to = k })) b h))
     go (inr none) = no (λ h. none (record { action = e.action; state = e.to }) h (refl, refl))
 
-shows_dec : (rows : List NumberSet) (x : ℕ × ℕ × ℕ) → Dec (Shows rows x)
-shows_dec rows x = both (dec_lt x.1 32) (ℕ_discrete ((get_or rows (x.0 * 32 + x.1) nothing).bits / 2 ^ x.2 % 2) 1)
-
 -- what the ghost field of a search keeps
 pub charted_sure : (m : Model) (t : Table) (charts : Charts) → ∥ Charted m t charts ∥₁ → Charted m t charts
 charted_sure m t charts there =
@@ -72,14 +68,14 @@ charted_sure m t charts there =
       whole = complete_sure m.actions t (λ no. nn (λ k. no k.whole));
       into = λ x. (
         λ h. sure (edge_dec m (record { from = x.2; action = x.0; to = x.1 })) (λ no. nn (λ k. no ((k.into x).0 h))),
-        λ h. sure (shows_dec charts.into.rows x) (λ no. nn (λ k. no ((k.into x).1 h))),
+        λ h. sure (holds_dec charts.into.rows x) (λ no. nn (λ k. no ((k.into x).1 h))),
       );
       out = λ x. (
         λ h. sure (edge_dec m (record { from = x.1; action = x.0; to = x.2 })) (λ no. nn (λ k. no ((k.out x).0 h))),
-        λ h. sure (shows_dec charts.out.rows x) (λ no. nn (λ k. no ((k.out x).1 h))),
+        λ h. sure (holds_dec charts.out.rows x) (λ no. nn (λ k. no ((k.out x).1 h))),
       );
       back = λ x. (
         λ h. sure (back_dec m.actions t x) (λ no. nn (λ k. no ((k.back x).0 h))),
-        λ h. sure (shows_dec charts.back.rows x) (λ no. nn (λ k. no ((k.back x).1 h))),
+        λ h. sure (holds_dec charts.back.rows x) (λ no. nn (λ k. no ((k.back x).1 h))),
       );
     }

@@ -1,16 +1,16 @@
--- Arrows: an action, a state and another state. They are kept as a set of states for each action and state.
-use Rattle.std.specs.Prelude.{◌≡◌, ℕ, ◌+◌, ◌*◌, ◌<◌, ◌≤◌, List, slice_index_or}
+-- Arrows: an action, a state and another state. They are kept as a set of triples.
+use Rattle.std.specs.Prelude.{◌≡◌, ℕ, ◌<◌, ◌≤◌, List}
 use Rattle.model.specs.declared.number_set.NumberSet.{NumberSet}
 use Rattle.model.specs.declared.model.Model.{Model}
 use Rattle.model.specs.Relations.{Exactly}
 use Rattle.model.specs.Models.{HasEdge}
-use Rattle.model.specs.Sets.{Has, nothing}
+use Rattle.model.specs.Triples.{Holds}
 use Rattle.language.specs.Tables.{Table, step, Complete}
 use Rattle.charts.specs.declared.charts.Charts.{Charts}
 
 -- the rows have the arrow
 abbrev pub Shows : List NumberSet → ℕ × ℕ × ℕ → Type 0
-Shows rows x = (x.1 < 32) × Has (slice_index_or rows (x.0 * 32 + x.1) nothing) x.2
+Shows rows x = Holds rows x
 
 -- an edge leads by the action to the state from the other
 abbrev pub Into : Model → ℕ × ℕ × ℕ → Type 0

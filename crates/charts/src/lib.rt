@@ -2,8 +2,6 @@
 // Only the searches call these functions, and keep what they require.
 #![tactic(auto)]
 
-mod arrows;
 mod charts;
 
-pub use arrows::Arrows;
 pub use charts::{Charts, step_of};

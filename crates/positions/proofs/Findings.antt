@@ -8,6 +8,7 @@ use Rattle.model.specs.declared.number_set.NumberSet.{NumberSet}
 use Rattle.model.specs.declared.model.Model.{Model}
 use Rattle.model.specs.Relations.{Joined}
 use Rattle.model.specs.Sets.{Has, nothing}
+use Rattle.model.specs.Triples.{size}
 use Rattle.model.proofs.Bits.{one_exact, or_joined}
 use Rattle.model.proofs.Joins.{joined_like, joined_both}
 use Rattle.language.specs.Tables.{Table}
@@ -16,7 +17,7 @@ use Rattle.pile.specs.Items.{items, room}
 use Rattle.walks.specs.Releases.{Forced, Bad, DoomedWithin}
 use Rattle.walks.proofs.Breaks.{doomed_more}
 use Rattle.positions.specs.declared.position.Position.{Position}
-use Rattle.positions.specs.Pairs.{pair, Holds, size}
+use Rattle.positions.specs.Pairs.{pair, Holds}
 use Rattle.positions.specs.Searches.{On, Sound, Roomy, Laid}
 use Rattle.positions.proofs.Sizes.{table_grows, table_same, holds_dec, size_few}
 use Rattle.positions.proofs.Marks.{pair_is, pair_added}

@@ -6,35 +6,35 @@ use Rattle.model.specs.declared.number_set.NumberSet.{NumberSet}
 use Rattle.model.specs.declared.model.Model.{Model}
 use Rattle.model.specs.Relations.{Exactly}
 use Rattle.model.specs.Sets.{Has, nothing}
-use Rattle.model.proofs.Bits.{none_has}
+use Rattle.model.specs.Triples.{row_of}
+use Rattle.model.proofs.TripleRows.{has_none}
 use Rattle.language.specs.Tables.{Table, step}
 use Rattle.logic.specs.Paths.{edge}
-use Rattle.walks.proofs.Walks.{edge_inside}
 use Rattle.charts.proofs.Sure.{sure}
 use Rattle.positions.specs.Pairs.{Holds}
 use Rattle.charts.specs.declared.charts.Charts.{Charts}
-use Rattle.charts.specs.Arrows.{Shows, Into, Out, Back, Charted}
+use Rattle.charts.specs.Arrows.{Into, Out, Back, Charted}
 use Rattle.positions.specs.Searches.{Led, LedBy, Noted, place}
-use Rattle.positions.proofs.Sizes.{holds_dec, empty_exact}
+use Rattle.positions.proofs.Sizes.{holds_dec}
 use Rattle.positions.proofs.Marks.{pair_is}
 
 -- the test by sets
 pub led_exact : (m : Model) (t : Table) (rows : List NumberSet) (p : ℕ × ℕ) (a n : ℕ) (ends row left : NumberSet) → n ≡ step t p.1 a → Exactly (Has ends) (λ u. Out m (a, p.0, u)) → row ≡ get_or rows n nothing
-    → Exactly (Has left) (λ u. Has ends u × (Has row u → ⊥)) → (left.bits ≡ 0 → LedBy m t rows p a) × (LedBy m t rows p a → left.bits ≡ 0)
+    → Exactly (Has left) (λ u. Has ends u × (Has row u → ⊥)) → (left ≡ nothing → LedBy m t rows p a) × (LedBy m t rows p a → (u : ℕ) → Has left u → ⊥)
 led_exact m t rows p a n ends row left next ends_are row_is left_are = (to, from)
   where
     there : (u : ℕ) → Holds rows (u, step t p.1 a) → Has row u
     there u h = subst (λ (x : NumberSet). Has x u) (sym row_is) (subst (λ k. Has (get_or rows k nothing) u) (sym next) h)
 
-    to : left.bits ≡ 0 → LedBy m t rows p a
-    to e u o = sure (holds_dec rows (u, step t p.1 a)) (λ n. none_has left.bits u e ((left_are u).1 ((ends_are u).1 o, λ h. n (subst (λ k. Has (get_or rows k nothing) u) next (subst (λ (x : NumberSet). Has x u) row_is h)))))
+    to : left ≡ nothing → LedBy m t rows p a
+    to e u o = sure (holds_dec rows (u, step t p.1 a)) (λ n. has_none left u e ((left_are u).1 ((ends_are u).1 o, λ h. n (subst (λ k. Has (get_or rows k nothing) u) next (subst (λ (x : NumberSet). Has x u) row_is h)))))
 
-    from : LedBy m t rows p a → left.bits ≡ 0
-    from all = empty_exact left (λ u h. let (e, n) = (left_are u).0 h in n (there u (all u ((ends_are u).0 e))))
+    from : LedBy m t rows p a → (u : ℕ) → Has left u → ⊥
+    from all u h = let (e, n) = (left_are u).0 h in n (there u (all u ((ends_are u).0 e)))
 
 -- all the actions
 pub led_all : (m : Model) (t : Table) (rows : List NumberSet) (p : ℕ × ℕ) → ((a : ℕ) → a < m.actions → LedBy m t rows p a) → Led m t rows p
-led_all m t rows p each x e = each x.action (edge_inside m (edge p.0 x) e).1 x.state e
+led_all m t rows p each x e = each x.action (m.inside (edge p.0 x) e).1 x.state e
 
 pub led_each : (m : Model) (t : Table) (rows : List NumberSet) (p : ℕ × ℕ) → Led m t rows p → (a : ℕ) → LedBy m t rows p a
 led_each m t rows p all a u o = all (record { action = a; state = u }) o
@@ -58,12 +58,12 @@ module _ (m : Model) (t : Table) where
       go (no ne) = noted p s' a (omega (arith, get_or-set_other actions (place x) (place p) n 0 ne))
 
 -- the ends of the edges from a state by an action, and the starts of those into it
-module _ (m : Model) (t : Table) (charts : Charts) (are : Charted m t charts) (a s : ℕ) (row : NumberSet) where
-  pub out_row : Exactly (Has row) (λ u. Shows charts.out.rows (a, s, u)) → Exactly (Has row) (λ u. Out m (a, s, u))
-  out_row is u = (λ h. (are.out (a, s, u)).0 ((is u).0 h), λ h. (is u).1 ((are.out (a, s, u)).1 h))
+module _ (m : Model) (t : Table) (charts : Charts) (are : Charted m t charts) (a s : ℕ) (row : NumberSet) (small : s < 32) where
+  pub out_row : row ≡ row_of charts.out.rows a s → Exactly (Has row) (λ u. Out m (a, s, u))
+  out_row is u = (λ h. (are.out (a, s, u)).0 (small, subst (λ (x : NumberSet). Has x u) is h), λ o. subst (λ (x : NumberSet). Has x u) (sym is) ((are.out (a, s, u)).1 o).1)
 
-  pub into_row : Exactly (Has row) (λ u. Shows charts.into.rows (a, s, u)) → Exactly (Has row) (λ u. Into m (a, s, u))
-  into_row is u = (λ h. (are.into (a, s, u)).0 ((is u).0 h), λ h. (is u).1 ((are.into (a, s, u)).1 h))
+  pub into_row : row ≡ row_of charts.into.rows a s → Exactly (Has row) (λ u. Into m (a, s, u))
+  into_row is u = (λ h. (are.into (a, s, u)).0 (small, subst (λ (x : NumberSet). Has x u) is h), λ o. subst (λ (x : NumberSet). Has x u) (sym is) ((are.into (a, s, u)).1 o).1)
 
-  pub back_row : Exactly (Has row) (λ u. Shows charts.back.rows (a, s, u)) → Exactly (Has row) (λ u. Back m.actions t (a, s, u))
-  back_row is u = (λ h. (are.back (a, s, u)).0 ((is u).0 h), λ h. (is u).1 ((are.back (a, s, u)).1 h))
+  pub back_row : row ≡ row_of charts.back.rows a s → Exactly (Has row) (λ u. Back m.actions t (a, s, u))
+  back_row is u = (λ h. (are.back (a, s, u)).0 (small, subst (λ (x : NumberSet). Has x u) is h), λ o. subst (λ (x : NumberSet). Has x u) (sym is) ((are.back (a, s, u)).1 o).1)

@@ -1,5 +1,5 @@
 -- Sets of pairs: a row of states for each watcher state. A pair is a state and a watcher state.
-use Rattle.std.specs.Prelude.{◌≡◌, ℕ, zero, suc, ◌+◌, List, get_or, count_ones, slice_index_or}
+use Rattle.std.specs.Prelude.{◌≡◌, ℕ, List, slice_index_or}
 use Rattle.model.specs.declared.number_set.NumberSet.{NumberSet}
 use Rattle.model.specs.Sets.{Has, nothing}
 use Rattle.positions.specs.declared.position.Position.{Position}
@@ -15,8 +15,3 @@ Holds rows p = Has (slice_index_or rows p.1 nothing) p.0
 -- a pair of one row, with a state of the set
 abbrev pub InRow : ℕ → (ℕ → Type 0) → ℕ × ℕ → Type 0
 InRow watch states p = (p.1 ≡ watch) × states p.0
-
--- how many pairs the first n rows have
-unfoldable pub size : List NumberSet → ℕ → ℕ
-size rows zero = 0
-size rows (suc n) = size rows n + count_ones (get_or rows n nothing).bits

@@ -6,13 +6,14 @@ use Rattle.model.specs.declared.model.Model.{Model}
 use Rattle.model.specs.Relations.{Joined}
 use Rattle.model.specs.Models.{HasEdge}
 use Rattle.model.specs.Sets.{Has}
+use Rattle.model.specs.Triples.{size}
 use Rattle.language.specs.Tables.{Table, step}
 use Rattle.logic.specs.Paths.{edge}
 use Rattle.pile.specs.declared.base.Pile.{Pile}
 use Rattle.pile.specs.Items.{items, room}
 use Rattle.walks.specs.Releases.{Forced, DoomedWithin}
 use Rattle.positions.specs.declared.position.Position.{Position}
-use Rattle.positions.specs.Pairs.{pair, Holds, size}
+use Rattle.positions.specs.Pairs.{pair, Holds}
 use Rattle.charts.specs.Arrows.{Into, Out, Back}
 
 -- the pair is on the pile

@@ -8,6 +8,7 @@ use Rattle.model.specs.declared.model.Model.{Model}
 use Rattle.model.specs.Relations.{Exactly, Upto}
 use Rattle.model.specs.Models.{HasEdge, edges_of}
 use Rattle.model.specs.Sets.{Has}
+use Rattle.model.specs.Triples.{size}
 use Rattle.model.proofs.Bits.{bit_none}
 use Rattle.language.specs.declared.alphabet.Alphabet.{Ghosts as Alphabets}
 use Rattle.language.specs.declared.watcher.Watcher.{Ghosts as Watchers}
@@ -18,13 +19,13 @@ use Rattle.pile.specs.declared.base.Pile.{Pile}
 use Rattle.pile.specs.Items.{items}
 use Rattle.walks.specs.Releases.{Forced, Bad}
 use Rattle.walks.proofs.Breaks.{doomed_breaks, breaks_not_keeps}
-use Rattle.walks.proofs.Walks.{seek, edge_inside, kept_outside}
+use Rattle.walks.proofs.Walks.{seek, kept_outside}
 use Rattle.positions.specs.declared.position.Position.{Position}
 use Rattle.positions.specs.declared.positions.Positions.{Positions}
 use Rattle.positions.specs.declared.search.Search.{Search}
 use Rattle.positions.specs.declared.setting.Setting.{Setting}
 use Rattle.positions.specs.Looking.{table_of, Looks}
-use Rattle.positions.specs.Pairs.{pair, Holds, size}
+use Rattle.positions.specs.Pairs.{pair, Holds}
 use Rattle.positions.specs.Searches.{On, Done, Sound, Roomy, Looked, Ready, BackBy}
 use Rattle.positions.specs.Beginnings.{BadBelow}
 use Rattle.release.specs.Releases.{Doomed, Released}
@@ -50,7 +51,7 @@ module _ (m : Model) (t : Table) (F : ℕ → Type 0) where
 
         go : Forced m t F (Done rows lower) s q → ((y : Step) × HasEdge m (edge s y) × (pair x ≡ (y.state, step t q y.action))) ⊎ ((y : Step) → HasEdge m (edge s y) → pair x ≡ (y.state, step t q y.action) → ⊥) → Holds rows (s, q) ⊎ Upto (BackBy m t (pair x)) m.actions (s, q)
         go f (inl (y, h, is)) =
-            let l = (edge_inside m (edge s y) h).1 in
+            let l = (m.inside (edge s y) h).1 in
             inr (y.action, l, (subst (λ u. HasEdge m (record { from = s; action = y.action; to = u })) (sym (ap (λ z. z.0) is)) h, (b, l, sym (ap (λ z. z.1) is))))
         go (nf, out, all) (inr none) = inl (ready s q b (nf, out, λ y h. ((all y h).0, λ o. ⊎_elim (all y h).1 (λ z. none y h (sym z)) ((on_more (items lower) x).only _ (subst (λ xs. On xs (y.state, step t q y.action)) e o)))))
 

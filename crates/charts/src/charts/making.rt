@@ -3,21 +3,20 @@ ghost use Rattle.model.specs.Relations.{Exactly, Joined};
 ghost use Rattle.language.specs.Tables.{step, Complete};
 ghost use Rattle.charts.specs.Arrows.{Shows, Into, Out, Back, BackFrom, Charted};
 
-use crate::arrows::Arrows;
 use crate::charts::Charts;
 use language::Watcher;
-use model::Model;
+use model::{Model, NumberSet, TripleSet};
 
 // The edges, from end to start and from start to end.
-fn arrows_of_edges(model: &Model) -> (Arrows, Arrows)
+fn arrows_of_edges(model: &Model) -> (TripleSet, TripleSet)
     ensures into { Exactly (Shows result.0.rows) (Into model.now) }
     ensures out { Exactly (Shows result.1.rows) (Out model.now) }
 {
-    let mut into = Arrows::none();
-    let mut out = Arrows::none();
+    let mut into = TripleSet::empty();
+    let mut out = TripleSet::empty();
     for edge in model.edges() {
-        into.add(edge.action, edge.to, edge.from);
-        out.add(edge.action, edge.from, edge.to);
+        into.add(edge.action, edge.to, NumberSet::single(edge.from));
+        out.add(edge.action, edge.from, NumberSet::single(edge.to));
     }
     (into, out)
 }
@@ -31,7 +30,7 @@ pub fn step_of<W: Watcher>(watcher: &W, watch: u8, action: u8) -> u8
 }
 
 // Adds the watcher's steps from one of its states, from end to start.
-fn add_steps<W: Watcher>(watcher: &W, actions: u8, arrows: &mut Arrows, watch: u8)
+fn add_steps<W: Watcher>(watcher: &W, actions: u8, arrows: &mut TripleSet, watch: u8)
     requires few_actions { actions ≤ 16 }
     requires complete { Complete actions (W.Watcher.table watcher.now) }
     requires small { (W.Watcher.table watcher.now).states ≤ 32 }
@@ -39,18 +38,19 @@ fn add_steps<W: Watcher>(watcher: &W, actions: u8, arrows: &mut Arrows, watch: u
     ensures { Joined (Shows arrows.old.rows) (Shows arrows.new.rows) (BackFrom actions (W.Watcher.table watcher.now) watch) }
 {
     for action in 0..actions {
-        arrows.add(action, step_of(watcher, watch, action), watch);
+        let next = step_of(watcher, watch, action);
+        arrows.add(action, next, NumberSet::single(watch));
     }
 }
 
 // The watcher's steps, from end to start.
-fn arrows_back<W: Watcher>(watcher: &W, actions: u8) -> Arrows
+fn arrows_back<W: Watcher>(watcher: &W, actions: u8) -> TripleSet
     requires few_actions { actions ≤ 16 }
     requires complete { Complete actions (W.Watcher.table watcher.now) }
     requires small { (W.Watcher.table watcher.now).states ≤ 32 }
     ensures { Exactly (Shows result.rows) (Back actions (W.Watcher.table watcher.now)) }
 {
-    let mut arrows = Arrows::none();
+    let mut arrows = TripleSet::empty();
     let watches = watcher.state_count() as u8;
     for watch in 0..watches {
         add_steps(watcher, actions, &mut arrows, watch);

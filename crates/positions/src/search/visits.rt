@@ -21,7 +21,7 @@ impl<'a, W: Watcher> Search<'a, W> {
     {
         let ends = self.setting.charts.out.row(action, position.state);
         let next = step_of(self.setting.watcher, position.watch, action);
-        ends.without(self.found.row(next)).bits() == 0
+        ends.without(self.found.row(next)).is_empty()
     }
 
     // Whether each edge leads from the position to one that is found. It begins at the action at which it last stopped.

@@ -3,7 +3,7 @@ use mathlib.Core.Bool.{false≢true}
 use Rattle.model.specs.Sets.{Has}
 use Rattle.positions.specs.Looking.{table_of}
 use Rattle.positions.specs.Beginnings.{Begun}
-use Rattle.positions.proofs.Beginnings.{begun_none, begun_not, begun_here}
+use Rattle.positions.proofs.Beginnings.{begun_not, begun_here}
 use Rattle.positions.proofs.search.Search.doom_marked.Goals as goal
 use Rattle.positions.proofs.search.Search.doom_marked.Goals.{then-is_marked, else-is_marked}
 

@@ -1,10 +1,5 @@
 use Rattle.std.proofs.Common.{sym, refl, subst, ⊎_elim}
-use Rattle.model.specs.declared.number_set.NumberSet.{NumberSet}
-use Rattle.model.specs.Sets.{Has}
-use Rattle.model.proofs.Bits.{bit_none}
 use Rattle.positions.specs.Looking.{IsInside}
-use Rattle.positions.proofs.Findings.{laid_like}
-use Rattle.positions.proofs.Turns.{finds_none, finds_taken}
 use Rattle.positions.proofs.search.Search.doom_states.Goals as goal
 
 pub doom-requires : goal.doom-requires

@@ -1,4 +1,4 @@
-use Rattle.std.proofs.Common.{ℕ, ◌<◌, sym, refl, ◌∙◌, subst, arith, below_more}
+use Rattle.std.proofs.Common.{ℕ, ◌<◌, sym, refl, ◌∙◌, subst, arith}
 use mathlib.Core.Bool.{false≢true}
 use Rattle.language.specs.declared.alphabet.Alphabet.{Ghosts as Alphabets}
 use Rattle.language.specs.declared.watcher.Watcher.{Ghosts as Watchers}

@@ -1,11 +1,6 @@
-use Rattle.std.proofs.Common.{◌≡◌, ◌<◌, sym, refl, subst}
-use Rattle.model.specs.declared.number_set.NumberSet.{NumberSet}
-use Rattle.model.specs.Sets.{Has}
-use Rattle.model.proofs.Bits.{bit_none}
+use Rattle.std.proofs.Common.{◌≡◌, sym, refl, subst}
 use Rattle.positions.specs.Searches.{Leaves}
-use Rattle.positions.specs.Looking.{table_of}
-use Rattle.positions.proofs.Marks.{pair_is}
-use Rattle.positions.proofs.Turns.{looks_none, looks_like, looks_taken}
+use Rattle.positions.proofs.Turns.{looks_taken}
 use Rattle.positions.proofs.search.Search.visit_states.Goals as goal
 
 pub visit-requires-clause-leaves : goal.visit-requires-clause-leaves
