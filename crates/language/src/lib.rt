@@ -3,6 +3,7 @@
 
 mod alphabet;
 mod fitting;
+mod fitting_watcher;
 mod rule;
 mod rules;
 mod until_language;
@@ -10,6 +11,7 @@ mod watcher;
 
 pub use alphabet::Alphabet;
 pub use fitting::Fitting;
+pub use fitting_watcher::FittingWatcher;
 pub use rule::Rule;
 pub use rules::Rules;
 pub use until_language::UntilLanguage;

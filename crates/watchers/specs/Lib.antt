@@ -1,6 +1,5 @@
 pub mod Steps
 pub mod TableWatchers
-pub mod Accepting
 pub mod StepTellingLemmas
 pub mod Lost
 pub mod TableTellingLemmas

@@ -2,20 +2,18 @@
 ghost use Rattle.std.specs.Prelude.{◌≡◌, true, IfOk, Ok, Decides};
 ghost use Rattle.model.specs.Refusals.{refusal};
 ghost use Rattle.language.specs.Words.{Known};
-ghost use Rattle.watchers.specs.Accepting.{CauseAccepts};
+ghost use Rattle.language.specs.Limits.{CauseManyStates};
 
-use language::Watcher;
+use language::{FittingWatcher, Watcher};
 use model::Refusal;
 
 // Runs the watcher over the word; one with more than 32 states is refused, and a word of the set has known actions alone.
 pub fn accepts<W: Watcher>(watcher: &W, word: &[u8]) -> Result<bool, Refusal>
-    ensures cause { CauseAccepts (W.Watcher.table watcher.now) (refusal result) }
+    ensures cause { CauseManyStates (W.Watcher.table watcher.now) (refusal result) }
     ensures right { IfOk result (λ yes. Decides yes (W.Watcher.words watcher.now word.now)) }
     ensures known { result ≡ Ok true → Known (W.Alphabet.known watcher.now) word.now }
 {
-    if watcher.state_count() > 32 {
-        return Err(Refusal::TooLarge);
-    }
+    FittingWatcher::of(watcher)?;
     let mut state = watcher.start();
     for action in word {
         match watcher.next(state, *action) {

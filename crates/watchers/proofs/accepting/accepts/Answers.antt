@@ -24,11 +24,11 @@ returns-in-None g c =
     let t = g.W.Watcher.table l in
     let w = c.args.word.now in
     let i = c.loop-action.action-index in
-    let few : t.states ≤ 32 = omega (arith, c.state_count.ensures, c.if-state_count-gt32.false) in
+    let few : t.states ≤ 32 = c.in_ok-of.ensures.limit in
     let e : step t c.loop-action.state (get_or w i 0) ≡ t.states = ap (λ o. unwrap_or o t.states) (sym c.next.ensures ∙ c.in-None.is) in
     let lost : run t t.start w ≡ run t t.states (drop (i + 1) w) = sym c.loop-action.invariant ∙ at_drop_more (run t c.loop-action.state) w i 0 c.loop-action-test.true ∙ ap (λ q. run t q (drop (i + 1) w)) e in
     record {
-      cause = inr ((λ large. omega arith), refl);
+      cause = inr ((λ large. omega (arith, few)), refl);
       right = (λ never. absurd (clash never), λ m. absurd (lost_unmarked (g.W.Alphabet.known l) t (g.met.W.Watcher.complete l few) (drop (i + 1) w) (subst (λ q. t.marked q ≡ true) lost (g.met.W.Watcher.accepted l w few m))));
       known = λ is. let never : false ≡ true = cc in absurd (clash never);
     }
@@ -38,11 +38,11 @@ returns g c =
     let l = c.args.watcher.now in
     let t = g.W.Watcher.table l in
     let w = c.args.word.now in
-    let few : t.states ≤ 32 = omega (arith, c.state_count.ensures, c.if-state_count-gt32.false) in
+    let few : t.states ≤ 32 = c.in_ok-of.ensures.limit in
     let end : run t t.start w ≡ c.loop-action.state = sym c.loop-action.invariant ∙ at_drop_all (run t c.loop-action.state) w c.loop-action.action-index c.loop-action-test.false in
     let same : t.marked (run t t.start w) ≡ c.is_marked.result = ap t.marked end ∙ sym c.is_marked.ensures in
     record {
-      cause = inr ((λ large. omega arith), refl);
+      cause = inr ((λ large. omega (arith, few)), refl);
       right = (λ is. g.met.W.Watcher.only_accepted l w few (same ∙ is), λ m. sym same ∙ g.met.W.Watcher.accepted l w few m);
       known = λ is. let yes_it_is : c.is_marked.result ≡ true = cc in marked_known (g.W.Alphabet.known l) t (g.met.W.Watcher.complete l few) t.start w (same ∙ yes_it_is);
     }
