@@ -3,5 +3,7 @@
 #![tactic(auto)]
 
 mod charts;
+mod watched;
 
 pub use charts::{Charts, step_of};
+pub use watched::Watched;

@@ -16,13 +16,13 @@ use Rattle.positions.proofs.Lookings.{looked_same, looked_like, looked_more, loo
 
 module _ {W : Type 0} {w : Watchers W} {a : Alphabets W} where
   -- the charts of a search are right
-  pub charted : (s : Setting W w a) → Charted s.model.now (table_of s) s.charts
-  charted s = charted_sure s.model.now (table_of s) s.charts s.charted
+  pub charted : (s : Setting W w a) → Charted s.watched.model.now (table_of s) s.charts
+  charted s = charted_sure s.watched.model.now (table_of s) s.charts s.charted
 
   -- a later call, told by the setting of an earlier one
   earlier : {x y : Setting W w a} {V : ℕ × ℕ → Type 0} (old new : Search W w a) → x ≡ y
-      → Looked x.model.now (table_of x) (Has x.freeing) V old.found.rows old.pile new.found.rows new.pile → Looked y.model.now (table_of y) (Has y.freeing) V old.found.rows old.pile new.found.rows new.pile
-  earlier {V = V} old new is l = subst (λ s. Looked s.model.now (table_of s) (Has s.freeing) V old.found.rows old.pile new.found.rows new.pile) is l
+      → Looked x.watched.model.now (table_of x) (Has x.freeing) V old.found.rows old.pile new.found.rows new.pile → Looked y.watched.model.now (table_of y) (Has y.freeing) V old.found.rows old.pile new.found.rows new.pile
+  earlier {V = V} old new is l = subst (λ s. Looked s.watched.model.now (table_of s) (Has s.freeing) V old.found.rows old.pile new.found.rows new.pile) is l
 
   module _ (x : Search W w a) where
     -- nothing has been done
@@ -46,8 +46,8 @@ module _ {W : Type 0} {w : Watchers W} {a : Alphabets W} where
     pub settled_looks : {V : ℕ × ℕ → Type 0} (y : Search W w a) → IsSettled x y → Looks V x x → Looks V x y
     settled_looks {V} y s l = record {
       same = s.same;
-      looked = subst (λ f. Looked x.setting.model.now (table_of x.setting) (Has x.setting.freeing) V x.found.rows x.pile f.rows y.pile) (sym s.found)
-          (subst (λ pile. Looked x.setting.model.now (table_of x.setting) (Has x.setting.freeing) V x.found.rows x.pile x.found.rows pile) (sym s.pile) l.looked);
+      looked = subst (λ f. Looked x.setting.watched.model.now (table_of x.setting) (Has x.setting.freeing) V x.found.rows x.pile f.rows y.pile) (sym s.found)
+          (subst (λ pile. Looked x.setting.watched.model.now (table_of x.setting) (Has x.setting.freeing) V x.found.rows x.pile x.found.rows pile) (sym s.pile) l.looked);
     }
 
     pub settled_finds : {D : ℕ × ℕ → Type 0} (y z : Search W w a) → IsSettled x y → Finds D y z → Finds D x z

@@ -1,5 +1,6 @@
 -- A search as its contracts see it: what it goes by, and what a call does to it.
 use Rattle.std.specs.Prelude.{◌≡◌, ℕ, ◌<◌}
+use Rattle.model.specs.declared.model.Model.{Model}
 use Rattle.model.specs.Sets.{Has}
 use Rattle.language.specs.declared.alphabet.Alphabet.{Ghosts as Alphabets}
 use Rattle.language.specs.declared.watcher.Watcher.{Ghosts as Watchers}
@@ -11,11 +12,15 @@ use Rattle.positions.specs.Searches.{Laid, Looked}
 
 -- the table of the watcher
 abbrev pub table_of : {W : Type 0} {w : Watchers W} {a : Alphabets W} → Setting W w a → Table
-table_of {w = w} s = w.table s.watcher.now
+table_of {w = w} s = w.table s.watched.watcher.now
+
+-- the model
+abbrev pub model_of : {W : Type 0} {w : Watchers W} {a : Alphabets W} → Setting W w a → Model
+model_of s = s.watched.model.now
 
 -- the position has a state of the model and one of the watcher
 abbrev pub IsInside : {W : Type 0} {w : Watchers W} {a : Alphabets W} → Setting W w a → Position → Type 0
-IsInside s x = (x.state < s.model.now.states) × (x.watch < (table_of s).states)
+IsInside s x = (x.state < (model_of s).states) × (x.watch < (table_of s).states)
 
 -- the positions D are found and laid on the pile
 pub record Finds {W : Type 0} {w : Watchers W} {a : Alphabets W} (D : ℕ × ℕ → Type 0) (old new : Search W w a) : Type 0 where
@@ -25,7 +30,7 @@ pub record Finds {W : Type 0} {w : Watchers W} {a : Alphabets W} (D : ℕ × ℕ
 -- the positions V have been looked at
 pub record Looks {W : Type 0} {w : Watchers W} {a : Alphabets W} (V : ℕ × ℕ → Type 0) (old new : Search W w a) : Type 0 where
   pub same : new.setting ≡ old.setting
-  pub looked : Looked old.setting.model.now (table_of old.setting) (Has old.setting.freeing) V old.found.rows old.pile new.found.rows new.pile
+  pub looked : Looked (model_of old.setting) (table_of old.setting) (Has old.setting.freeing) V old.found.rows old.pile new.found.rows new.pile
 
 -- nothing but the progress has changed
 pub record IsSettled {W : Type 0} {w : Watchers W} {a : Alphabets W} (old new : Search W w a) : Type 0 where

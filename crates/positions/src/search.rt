@@ -15,8 +15,8 @@ pub struct Search<'a, W: Watcher> {
     pub found: Positions,
     progress: Progress,
     pub pile: Pile<'a, Position>,
-    ghost noted: { Noted setting.model.now (W.Watcher.table setting.watcher.now) found.rows progress.actions },
-    ghost roomy: { Roomy setting.model.now (W.Watcher.table setting.watcher.now).states found.rows pile },
+    ghost noted: { Noted setting.watched.model.now (W.Watcher.table setting.watched.watcher.now) found.rows progress.actions },
+    ghost roomy: { Roomy setting.watched.model.now (W.Watcher.table setting.watched.watcher.now).states found.rows pile },
 }
 
 mod beginning;

@@ -1,16 +1,15 @@
 // What a search goes by and does not change.
 ghost use Rattle.charts.specs.Arrows.{Charted};
 
-use charts::Charts;
+use charts::{Charts, Watched};
 use language::Watcher;
-use model::{Model, NumberSet};
+use model::NumberSet;
 
-// The watcher and the model, what both look like by action, and the states that free.
+// The watcher beside the model, what both look like by action, and the states that free.
 #[derive(Drop)]
 pub struct Setting<'a, W: Watcher> {
-    pub watcher: &'a W,
-    pub model: &'a Model,
+    pub watched: Watched<'a, W>,
     pub charts: Charts,
     pub freeing: NumberSet,
-    ghost charted: { ∥ Charted model.now (W.Watcher.table watcher.now) charts ∥₁ },
+    ghost charted: { ∥ Charted watched.model.now (W.Watcher.table watched.watcher.now) charts ∥₁ },
 }

@@ -114,14 +114,14 @@ released_words m F K W U n set to from r = record {
 
 module _ {W : Type 0} {w : Watchers W} {a : Alphabets W} where
   -- one turn of a search, told by an equal setting: the top is taken off the pile, and the pairs that lead to it are looked at
-  pub turn : (s : Setting W w a) (x lower y : Search W w a) (top : Position) → lower.setting ≡ s → lower.found ≡ x.found → Looks (Upto (BackBy lower.setting.model.now (table_of lower.setting) (pair top)) lower.setting.model.now.actions) lower y
-      → Looked s.model.now (table_of s) (Has s.freeing) (Upto (BackBy s.model.now (table_of s) (pair top)) s.model.now.actions) x.found.rows lower.pile y.found.rows y.pile
+  pub turn : (s : Setting W w a) (x lower y : Search W w a) (top : Position) → lower.setting ≡ s → lower.found ≡ x.found → Looks (Upto (BackBy lower.setting.watched.model.now (table_of lower.setting) (pair top)) lower.setting.watched.model.now.actions) lower y
+      → Looked s.watched.model.now (table_of s) (Has s.freeing) (Upto (BackBy s.watched.model.now (table_of s) (pair top)) s.watched.model.now.actions) x.found.rows lower.pile y.found.rows y.pile
   turn s x lower y top same found looks =
-      let T : Setting W w a → Positions → Type 0 = λ k f. Looked k.model.now (table_of k) (Has k.freeing) (Upto (BackBy k.model.now (table_of k) (pair top)) k.model.now.actions) f.rows lower.pile y.found.rows y.pile in
+      let T : Setting W w a → Positions → Type 0 = λ k f. Looked k.watched.model.now (table_of k) (Has k.freeing) (Upto (BackBy k.watched.model.now (table_of k) (pair top)) k.watched.model.now.actions) f.rows lower.pile y.found.rows y.pile in
       subst (λ k. T k x.found) same (subst (T lower.setting) found looks.looked)
 
   -- what a search says of its setting it says of what the setting was made of
-  pub doomed_by : (s : Setting W w a) (watcher : W) (m : Model) (freeing : NumberSet) (K : ℕ → Type 0) (rows : List NumberSet) → s.watcher.now ≡ watcher → s.model.now ≡ m → s.freeing ≡ freeing
-      → Doomed s.model.now (table_of s) (Has s.freeing) K rows → Doomed m (w.table watcher) (Has freeing) K rows
+  pub doomed_by : (s : Setting W w a) (watcher : W) (m : Model) (freeing : NumberSet) (K : ℕ → Type 0) (rows : List NumberSet) → s.watched.watcher.now ≡ watcher → s.watched.model.now ≡ m → s.freeing ≡ freeing
+      → Doomed s.watched.model.now (table_of s) (Has s.freeing) K rows → Doomed m (w.table watcher) (Has freeing) K rows
   doomed_by s watcher m freeing K rows e f h d =
-      subst (λ x. Doomed m (w.table x) (Has freeing) K rows) e (subst (λ x. Doomed x (table_of s) (Has freeing) K rows) f (subst (λ x. Doomed s.model.now (table_of s) (Has x) K rows) h d))
+      subst (λ x. Doomed m (w.table x) (Has freeing) K rows) e (subst (λ x. Doomed x (table_of s) (Has freeing) K rows) f (subst (λ x. Doomed s.watched.model.now (table_of s) (Has x) K rows) h d))

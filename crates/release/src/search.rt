@@ -4,6 +4,7 @@ ghost use Rattle.model.specs.Sets.{Has};
 ghost use Rattle.language.specs.Tables.{Accepts};
 ghost use Rattle.release.specs.Releases.{Doomed, Released};
 
+use charts::Watched;
 use language::Watcher;
 use model::{Model, NumberSet};
 use positions::{Position, Positions, Search};
@@ -22,7 +23,7 @@ pub fn doomed<W: Watcher>(
     requires room { model.now.states * (W.Watcher.table watcher.now).states ≤ length waiting.old }
     ensures { Doomed model.now (W.Watcher.table watcher.now) (Has freeing) (Has kept) result.rows }
 {
-    let mut search = Search::over(watcher, model, freeing, waiting);
+    let mut search = Search::over(Watched { watcher, model }, freeing, waiting);
     search.doom_marked(NumberSet::below(model.states()).without(kept));
     while let Some(top) = search.pop() {
         search.expand(top);

@@ -1,9 +1,10 @@
-ghost use Rattle.std.specs.Prelude.{◌≡◌, ℕ, ◌<◌, ◌≤◌, None, ◌≢◌};
+ghost use Rattle.std.specs.Prelude.{◌≡◌, ◌<◌, None, ◌≢◌};
 ghost use Rattle.model.specs.Relations.{Exactly, Joined};
-ghost use Rattle.language.specs.Tables.{step, Complete};
+ghost use Rattle.language.specs.Tables.{step};
 ghost use Rattle.charts.specs.Arrows.{Shows, Into, Out, Back, BackFrom, Charted};
 
 use crate::charts::Charts;
+use crate::watched::Watched;
 use language::Watcher;
 use model::{Model, NumberSet, TripleSet};
 
@@ -30,46 +31,38 @@ pub fn step_of<W: Watcher>(watcher: &W, watch: u8, action: u8) -> u8
 }
 
 // Adds the watcher's steps from one of its states, from end to start.
-fn add_steps<W: Watcher>(watcher: &W, actions: u8, arrows: &mut TripleSet, watch: u8)
-    requires few_actions { actions ≤ 16 }
-    requires complete { Complete actions (W.Watcher.table watcher.now) }
-    requires small { (W.Watcher.table watcher.now).states ≤ 32 }
-    requires watch { watch < (W.Watcher.table watcher.now).states }
-    ensures { Joined (Shows arrows.old.rows) (Shows arrows.new.rows) (BackFrom actions (W.Watcher.table watcher.now) watch) }
+fn add_steps<W: Watcher>(watched: &Watched<W>, arrows: &mut TripleSet, watch: u8)
+    requires { watch < (W.Watcher.table watched.now.watcher.now).states }
+    ensures { Joined (Shows arrows.old.rows) (Shows arrows.new.rows) (BackFrom watched.now.model.now.actions (W.Watcher.table watched.now.watcher.now) watch) }
 {
-    for action in 0..actions {
-        let next = step_of(watcher, watch, action);
+    for action in 0..watched.model.actions() {
+        let next = step_of(watched.watcher, watch, action);
         arrows.add(action, next, NumberSet::single(watch));
     }
 }
 
 // The watcher's steps, from end to start.
-fn arrows_back<W: Watcher>(watcher: &W, actions: u8) -> TripleSet
-    requires few_actions { actions ≤ 16 }
-    requires complete { Complete actions (W.Watcher.table watcher.now) }
-    requires small { (W.Watcher.table watcher.now).states ≤ 32 }
-    ensures { Exactly (Shows result.rows) (Back actions (W.Watcher.table watcher.now)) }
+fn arrows_back<W: Watcher>(watched: &Watched<W>) -> TripleSet
+    ensures { Exactly (Shows result.rows) (Back watched.now.model.now.actions (W.Watcher.table watched.now.watcher.now)) }
 {
     let mut arrows = TripleSet::empty();
-    let watches = watcher.state_count() as u8;
+    let watches = watched.watcher.state_count() as u8;
     for watch in 0..watches {
-        add_steps(watcher, actions, &mut arrows, watch);
+        add_steps(watched, &mut arrows, watch);
     }
     arrows
 }
 
 impl Charts {
     // The charts of a watcher and a model with the same actions.
-    pub fn of<W: Watcher>(watcher: &W, model: &Model) -> Charts
-        requires small { (W.Watcher.table watcher.now).states ≤ 32 }
-        requires alphabet { W.Alphabet.known watcher.now ≡ model.now.actions }
-        ensures { Charted model.now (W.Watcher.table watcher.now) result }
+    pub fn of<W: Watcher>(watched: &Watched<W>) -> Charts
+        ensures { Charted watched.now.model.now (W.Watcher.table watched.now.watcher.now) result }
     {
-        let (into, out) = arrows_of_edges(model);
+        let (into, out) = arrows_of_edges(watched.model);
         Charts {
             into,
             out,
-            back: arrows_back(watcher, model.actions()),
+            back: arrows_back(watched),
         }
     }
 }

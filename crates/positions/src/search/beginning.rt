@@ -3,7 +3,7 @@ ghost use Rattle.std.specs.Prelude.{◌≡◌, ℕ, ◌*◌, ◌<◌, ◌≤◌,
 ghost use Rattle.model.specs.Sets.{Has};
 ghost use Rattle.pile.specs.Items.{items};
 ghost use Rattle.positions.specs.Pairs.{pair, Holds, InRow};
-ghost use Rattle.positions.specs.Looking.{table_of, IsInside, Finds};
+ghost use Rattle.positions.specs.Looking.{model_of, table_of, IsInside, Finds};
 ghost use Rattle.positions.specs.Beginnings.{Begun};
 
 use crate::position::Position;
@@ -11,33 +11,29 @@ use crate::positions::Positions;
 use crate::progress::Progress;
 use crate::search::Search;
 use crate::setting::Setting;
-use charts::Charts;
+use charts::{Charts, Watched};
 use language::Watcher;
-use model::{Model, NumberSet};
+use model::NumberSet;
 use pile::Pile;
 
 impl<'a, W: Watcher> Search<'a, W> {
     // A search with nothing found; what is found waits on the memory that is lent.
     pub fn over(
-        watcher: &'a W,
-        model: &'a Model,
+        watched: Watched<'a, W>,
         freeing: NumberSet,
         waiting: &'a mut [Position],
     ) -> Search<'a, W>
-        requires small { (W.Watcher.table watcher.now).states ≤ 32 }
-        requires alphabet { W.Alphabet.known watcher.now ≡ model.now.actions }
-        requires room { model.now.states * (W.Watcher.table watcher.now).states ≤ length waiting.old }
-        ensures watcher { result.setting.watcher.now ≡ watcher.now }
-        ensures model { result.setting.model.now ≡ model.now }
+        requires { watched.model.now.states * (W.Watcher.table watched.watcher.now).states ≤ length waiting.old }
+        ensures watched { result.setting.watched ≡ watched.entry }
         ensures freeing { result.setting.freeing ≡ freeing }
         ensures found { (p : ℕ × ℕ) → Holds result.found.rows p → ⊥ }
         ensures waiting { items result.pile ≡ [] }
     {
+        let charts = Charts::of(&watched);
         Search {
             setting: Setting {
-                watcher,
-                model,
-                charts: Charts::of(watcher, model),
+                watched,
+                charts,
                 freeing,
             },
             found: Positions::none(),
@@ -59,7 +55,7 @@ impl<'a, W: Watcher> Search<'a, W> {
     // Finds the positions of the states, none of which is found, with one watcher state, and lays them on the pile.
     fn doom_states(&mut self, watch: u8, states: NumberSet)
         requires watch { watch < (table_of self.old.setting).states }
-        requires states { (s : ℕ) → Has states s → s < self.old.setting.model.now.states }
+        requires states { (s : ℕ) → Has states s → s < (model_of self.old.setting).states }
         requires new { (s : ℕ) → Has states s → Holds self.old.found.rows (s, watch) → ⊥ }
         ensures { Finds (InRow watch (Has states)) self.old self.new }
     {
@@ -72,13 +68,13 @@ impl<'a, W: Watcher> Search<'a, W> {
     // Begins a search that has found nothing: finds the positions of the states at which the watcher marks,
     // and lays them on the pile.
     pub fn doom_marked(&mut self, states: NumberSet)
-        requires states { (s : ℕ) → Has states s → s < self.old.setting.model.now.states }
+        requires states { (s : ℕ) → Has states s → s < (model_of self.old.setting).states }
         requires new { (p : ℕ × ℕ) → Holds self.old.found.rows p → ⊥ }
         ensures { Begun (Has states) (table_of self.old.setting).states self.old self.new }
     {
-        let watches = self.setting.watcher.state_count() as u8;
+        let watches = self.setting.watched.watcher.state_count() as u8;
         for watch in 0..watches {
-            if self.setting.watcher.is_marked(watch) {
+            if self.setting.watched.watcher.is_marked(watch) {
                 self.doom_states(watch, states);
             }
         }

@@ -16,7 +16,7 @@ loop-top-init g c =
     let s = x.setting in
     record {
       same = refl;
-      ready = ready_start s.model.now (table_of s) (Has s.freeing) x.found.rows x.pile c.doom_marked.ensures.all;
+      ready = ready_start s.watched.model.now (table_of s) (Has s.freeing) x.found.rows x.pile c.doom_marked.ensures.all;
       sound = λ k h. h;
       keeps = λ p h. h;
     }
@@ -29,7 +29,7 @@ loop-top-preserved g c =
     let looked = turn s x c.pop.new.self c.expand.new.self c.in-Some.top (c.in-Some.ensures.setting ∙ inv.same) c.in-Some.ensures.found c.expand.ensures in
     record {
       same = c.expand.ensures.same ∙ c.in-Some.ensures.setting ∙ inv.same;
-      ready = ready_looked s.model.now (table_of s) (Has s.freeing) x.found.rows x.pile c.pop.new.self.pile c.in-Some.top c.in-Some.ensures.waiting inv.ready looked;
+      ready = ready_looked s.watched.model.now (table_of s) (Has s.freeing) x.found.rows x.pile c.pop.new.self.pile c.in-Some.top c.in-Some.ensures.waiting inv.ready looked;
       sound = λ k h. looked.sound k (inv.sound k h);
       keeps = λ p h. looked.keeps p (inv.keeps p h);
     }
@@ -40,24 +40,24 @@ loop-top-smaller g c =
     let y = c.expand.new.self in
     let s = x.setting in
     let looked = turn s x c.pop.new.self y c.in-Some.top c.in-Some.ensures.setting c.in-Some.ensures.found c.expand.ensures in
-    turn_less s.model.now (table_of s) (Has s.freeing) x.found.rows x.pile c.pop.new.self.pile c.in-Some.top c.in-Some.ensures.waiting (charted s).small
-    (subst (λ k. Roomy k.model.now (table_of k).states y.found.rows y.pile) (c.expand.ensures.same ∙ c.in-Some.ensures.setting) y.roomy) looked
+    turn_less s.watched.model.now (table_of s) (Has s.freeing) x.found.rows x.pile c.pop.new.self.pile c.in-Some.top c.in-Some.ensures.waiting (charted s).small
+    (subst (λ k. Roomy k.watched.model.now (table_of k).states y.found.rows y.pile) (c.expand.ensures.same ∙ c.in-Some.ensures.setting) y.roomy) looked
 
 pub returns : goal.returns
 returns g c =
     let x = c.doom_marked.new.self in
     let y = c.loop-top.search in
     let s = x.setting in
-    let m = s.model.now in
+    let m = s.watched.model.now in
     let t = table_of s in
     let inv = c.loop-top.invariant in
     let begun = c.doom_marked.ensures in
     let made = c.over-search.ensures in
-    let unkept = states_without m c.states.result c.below.result c.args.kept c.without.result (c.states.ensures ∙ sym (ap (λ k. k.model.now.states) begun.same ∙ ap (λ k. k.states) made.model)) c.below.ensures c.without.ensures in
+    let unkept = states_without m c.states.result c.below.result c.args.kept c.without.result (c.states.ensures ∙ sym (ap (λ k. k.watched.model.now.states) begun.same ∙ ap (λ w. w.model.now.states) made.watched)) c.below.ensures c.without.ensures in
     let bad = subst (λ k. Exactly (Holds x.found.rows) (BadBelow (table_of k) (table_of k).states (Has c.without.result))) (sym begun.same) begun.bad in
     let all = doomed_all m t s.freeing c.args.kept y.found.rows (charted s).whole
     (inv.sound c.args.kept (sound_bad m t (Has s.freeing) (Has c.args.kept) x.found.rows (Has c.without.result) (charted s).small bad (λ u. (unkept u).0)))
     (λ u q k l b. inv.keeps (u, q) ((bad (u, q)).1 (l, b.0, (unkept u).1 (k, b.1))))
     (ready_end m t (Has s.freeing) y.found.rows y.pile c.in_default.ensures.waiting inv.ready) in
     subst (λ f. Doomed c.args.model.now (g.W.Watcher.table c.args.watcher.now) (Has c.args.freeing) (Has c.args.kept) f.rows) (sym c.in_default.ensures.found)
-    (doomed_by s c.args.watcher.now c.args.model.now c.args.freeing (Has c.args.kept) y.found.rows (ap (λ k. k.watcher.now) begun.same ∙ made.watcher) (ap (λ k. k.model.now) begun.same ∙ made.model) (ap (λ k. k.freeing) begun.same ∙ made.freeing) all)
+    (doomed_by s c.args.watcher.now c.args.model.now c.args.freeing (Has c.args.kept) y.found.rows (ap (λ k. k.watched.watcher.now) begun.same ∙ ap (λ w. w.watcher.now) made.watched) (ap (λ k. k.watched.model.now) begun.same ∙ ap (λ w. w.model.now) made.watched) (ap (λ k. k.freeing) begun.same ∙ made.freeing) all)

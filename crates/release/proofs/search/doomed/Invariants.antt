@@ -13,8 +13,8 @@ invariant-loop-top g l =
     let s = l.initial.search.setting in
     record {
       same : l.search.setting ≡ s;
-      ready : Ready s.model.now (table_of s) (Has s.freeing) l.search.found.rows l.search.pile;
-      sound : (k : NumberSet) → Sound s.model.now (table_of s) (Has s.freeing) (Has k) l.initial.search.found.rows → Sound s.model.now (table_of s) (Has s.freeing) (Has k) l.search.found.rows;
+      ready : Ready s.watched.model.now (table_of s) (Has s.freeing) l.search.found.rows l.search.pile;
+      sound : (k : NumberSet) → Sound s.watched.model.now (table_of s) (Has s.freeing) (Has k) l.initial.search.found.rows → Sound s.watched.model.now (table_of s) (Has s.freeing) (Has k) l.search.found.rows;
       keeps : (p : ℕ × ℕ) → Holds l.initial.search.found.rows p → Holds l.search.found.rows p;
     }
 

@@ -7,5 +7,5 @@ use Rattle.positions.proofs.search.Search.is_led.Given as goal
 abbrev pub invariant-loop-action : goal.invariant-loop-action
 invariant-loop-action g l = record {
   same : l.self ≡ l.fn.self;
-  led : (a : ℕ) → a < l.action → LedBy l.fn.self.setting.model.now (table_of l.fn.self.setting) l.fn.self.found.rows (pair l.position) a;
+  led : (a : ℕ) → a < l.action → LedBy l.fn.self.setting.watched.model.now (table_of l.fn.self.setting) l.fn.self.found.rows (pair l.position) a;
 }

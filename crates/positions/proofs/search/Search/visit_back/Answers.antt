@@ -15,11 +15,11 @@ visit_states-requires g c =
     let q = c.in-Some.watch in
     let inv = c.loop-watch.invariant in
     let same = sym inv.looked.same in
-    let starts = into_row s.model.now (table_of s) s.charts (charted s) c.args.action c.args.position.state c.row-states.result c.requires.state c.row-states.ensures in
-    let steps = back_row s.model.now (table_of s) s.charts (charted s) c.args.action c.args.position.watch c.row-rest.result c.requires.watch c.row-rest.ensures in
+    let starts = into_row s.watched.model.now (table_of s) s.charts (charted s) c.args.action c.args.position.state c.row-states.result c.requires.state c.row-states.ensures in
+    let steps = back_row s.watched.model.now (table_of s) s.charts (charted s) c.args.action c.args.position.watch c.row-rest.result c.requires.watch c.row-rest.ensures in
     record {
       watch = subst (λ x. q < (table_of x).states) same ((steps q).0 (inv.inside q (c.in-Some.ensures.1.puts q refl))).0;
-      leave = λ u h. subst (λ x. Leaves x.model.now u) same (record { action = c.args.action; state = c.args.position.state }, (starts u).0 h);
+      leave = λ u h. subst (λ x. Leaves x.watched.model.now u) same (record { action = c.args.action; state = c.args.position.state }, (starts u).0 h);
     }
 
 pub loop-watch-preserved : goal.loop-watch-preserved
@@ -35,7 +35,7 @@ pub returns : goal.returns
 returns g c =
     let s = c.args.self.now.setting in
     let empty = c.in_default.ensures.0 in
-    let starts = into_row s.model.now (table_of s) s.charts (charted s) c.args.action c.args.position.state c.row-states.result c.requires.state c.row-states.ensures in
-    let steps = back_row s.model.now (table_of s) s.charts (charted s) c.args.action c.args.position.watch c.row-rest.result c.requires.watch c.row-rest.ensures in
+    let starts = into_row s.watched.model.now (table_of s) s.charts (charted s) c.args.action c.args.position.state c.row-states.result c.requires.state c.row-states.ensures in
+    let steps = back_row s.watched.model.now (table_of s) s.charts (charted s) c.args.action c.args.position.watch c.row-rest.result c.requires.watch c.row-rest.ensures in
     looks_like c.args.self.now c.loop-watch.self
     (λ p v. (p.1, (steps p.1).1 v.1, (λ h. bit_none p.1 (subst (λ (x : NumberSet). Has x p.1) empty h)), (refl, (starts p.0).1 v.0))) c.loop-watch.invariant.looked

@@ -7,7 +7,7 @@ pub visit-requires-clause-leaves : goal.visit-requires-clause-leaves
 visit-requires-clause-leaves g c =
     let s = c.in-Some.state in
     let inv = c.loop-state.invariant in
-    subst (λ x. Leaves x.model.now s) (sym inv.looked.same) (c.requires.leave s (inv.inside s (c.in-Some.ensures.1.puts s refl)))
+    subst (λ x. Leaves x.watched.model.now s) (sym inv.looked.same) (c.requires.leave s (inv.inside s (c.in-Some.ensures.1.puts s refl)))
 
 pub loop-state-preserved : goal.loop-state-preserved
 loop-state-preserved g c =
