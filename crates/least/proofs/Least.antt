@@ -5,24 +5,24 @@ use Rattle.language.specs.declared.rule.Rule.{Rule}
 use Rattle.language.specs.declared.rule.Rule.TheVariants.{Empty, Letter, Lead, Same, Pair}
 use Rattle.language.specs.Rules.{SymbolsBelow, RulesWithin}
 use Rattle.logic.specs.Facts.{Triple}
-use Rattle.least.specs.declared.scope.Scope.{Scope}
+use Rattle.least.specs.declared.table.Table.{Table}
 use Rattle.least.specs.Walks.{WalkWithin, GivesIn}
 use Rattle.least.specs.Entries.{ground_of, entry_of, Known, AtMost, Closed}
 use Rattle.least.proofs.Walking.{walk_to, guarded_start, guarded_end}
 
-module _ (c : Scope) (rules : List Rule) (top : ℕ) (in_rules : RulesWithin c.symbols rules) (w : List ℕ) (closed : Closed c rules top w) where
+module _ (t : Table) (rules : List Rule) (top : ℕ) (in_rules : RulesWithin t.scope.symbols rules) (closed : Closed rules top t) where
   at_most_up : (e i n : ℕ) → i ≤ n → AtMost i e → AtMost n e
   at_most_up e i n l a = record { some = a.some; low = omega (arith, a.low) }
 
-  walk_known : (h : ℕ) (q : Triple) (j : ℕ) → q.0 < c.symbols → WalkWithin (ground_of c) rules h q j → AtMost j (entry_of c w q) → (i : ℕ) × (i ≤ j) × Known c w q i
+  walk_known : (h : ℕ) (q : Triple) (j : ℕ) → q.0 < t.scope.symbols → WalkWithin (ground_of t.scope) rules h q j → AtMost j (entry_of t q) → (i : ℕ) × (i ≤ j) × Known t q i
   walk_known h q j l (path, g, d, len) a = (
-    entry_of c w q - 1,
+    entry_of t q - 1,
     omega (arith, a.low),
-    record { there = record { symbol = l; from = omega (arith, c.its_states, guarded_start (ground_of c) q.1 q.2 path g); to = omega (arith, c.its_states, guarded_end (ground_of c) q.1 q.2 path g) }; is = omega (arith, a.some) },
+    record { there = record { symbol = l; from = omega (arith, t.scope.its_states, guarded_start (ground_of t.scope) q.1 q.2 path g); to = omega (arith, t.scope.its_states, guarded_end (ground_of t.scope) q.1 q.2 path g) }; is = omega (arith, a.some) },
   )
 
-  by_rule : (h : ℕ) → ((q : Triple) (j : ℕ) → j < top → WalkWithin (ground_of c) rules h q j → AtMost j (entry_of c w q))
-      → (r : Rule) (p : Triple) (n : ℕ) → SymbolsBelow c.symbols r → Among r rules → n < top → GivesIn (ground_of c) r (WalkWithin (ground_of c) rules h) (WalkWithin (ground_of c) rules h) p n → AtMost n (entry_of c w p)
+  by_rule : (h : ℕ) → ((q : Triple) (j : ℕ) → j < top → WalkWithin (ground_of t.scope) rules h q j → AtMost j (entry_of t q))
+      → (r : Rule) (p : Triple) (n : ℕ) → SymbolsBelow t.scope.symbols r → Among r rules → n < top → GivesIn (ground_of t.scope) r (WalkWithin (ground_of t.scope) rules h) (WalkWithin (ground_of t.scope) rules h) p n → AtMost n (entry_of t p)
   by_rule h ih (Empty H) p n wi r∈ l d = closed (Empty H) p n r∈ l d
   by_rule h ih (Letter H a) p n wi r∈ l d = closed (Letter H a) p n r∈ l d
   by_rule h ih (Lead H a B) p n wi r∈ l (x, e, ld, j, f, z) =
@@ -36,10 +36,10 @@ module _ (c : Scope) (rules : List Rule) (top : ℕ) (in_rules : RulesWithin c.s
       let (j', l₂, k₂) = walk_known h (C, u, p.2) j wi.2 f₂ (ih _ j (omega arith) f₂) in
       at_most_up _ (i' + j') n (omega arith) (closed (Pair H B C) p (i' + j') r∈ (omega arith) (x, u, i', j', k₁, k₂, refl))
 
-  pub least : (h : ℕ) (p : Triple) (n : ℕ) → n < top → WalkWithin (ground_of c) rules h p n → AtMost n (entry_of c w p)
+  pub least : (h : ℕ) (p : Triple) (n : ℕ) → n < top → WalkWithin (ground_of t.scope) rules h p n → AtMost n (entry_of t p)
   least zero p n l f = absurd f.2
-  least (suc h) p n l f = by_rule h (least h) f.2.0 p n (in_rules f.2.0 f.2.1) f.2.1 l (walk_to (ground_of c) rules h f.2.0 p n f.0 f.1 f.2.2 f.3)
+  least (suc h) p n l f = by_rule h (least h) f.2.0 p n (in_rules f.2.0 f.2.1) f.2.1 l (walk_to (ground_of t.scope) rules h f.2.0 p n f.0 f.1 f.2.2 f.3)
 
   -- the table has the fact of every walk, with no more steps
-  pub least_known : (h : ℕ) (q : Triple) (j : ℕ) → q.0 < c.symbols → j < top → WalkWithin (ground_of c) rules h q j → (i : ℕ) × (i ≤ j) × Known c w q i
+  pub least_known : (h : ℕ) (q : Triple) (j : ℕ) → q.0 < t.scope.symbols → j < top → WalkWithin (ground_of t.scope) rules h q j → (i : ℕ) × (i ≤ j) × Known t q i
   least_known h q j l j< f = walk_known h q j l f (least h q j j< f)

@@ -5,6 +5,7 @@ use Rattle.language.specs.declared.rule.Rule.{Rule}
 use Rattle.logic.specs.Facts.{Triple, Ground, ground}
 use Rattle.least.specs.declared.fact.Fact.{Fact}
 use Rattle.least.specs.declared.scope.Scope.{Scope}
+use Rattle.least.specs.declared.table.Table.{Table}
 use Rattle.least.specs.Walks.{Walk, GivesIn}
 
 -- the model with its guard
@@ -19,8 +20,8 @@ abbrev pub place : ℕ → Triple → ℕ
 place s p = (p.0 * s + p.1) * s + p.2
 
 -- the entry of a fact
-abbrev pub entry_of : Scope → List ℕ → Triple → ℕ
-entry_of c w p = slice_index w (place c.states p)
+abbrev pub entry_of : Table → Triple → ℕ
+entry_of t p = slice_index t.entries.now (place t.scope.states p)
 
 -- the fact's symbol and states are there
 pub record In (c : Scope) (p : Triple) : Type 0 where
@@ -29,9 +30,9 @@ pub record In (c : Scope) (p : Triple) : Type 0 where
   pub to : p.2 < c.states
 
 -- the table has the fact, with n steps
-pub record Known (c : Scope) (w : List ℕ) (p : Triple) (n : ℕ) : Type 0 where
-  pub there : In c p
-  pub is : entry_of c w p ≡ n + 1
+pub record Known (t : Table) (p : Triple) (n : ℕ) : Type 0 where
+  pub there : In t.scope p
+  pub is : entry_of t p ≡ n + 1
 
 -- an entry of at most n steps
 pub record AtMost (n entry : ℕ) : Type 0 where
@@ -39,14 +40,9 @@ pub record AtMost (n entry : ℕ) : Type 0 where
   pub low : entry ≤ n + 1
 
 -- each entry is one more than the steps of some path behind its fact
-abbrev pub Sound : Scope → List Rule → List ℕ → Type 0
-Sound c rules w = (p : Triple) (n : ℕ) → Known c w p n → Walk (ground_of c) rules p n
+abbrev pub Sound : List Rule → Table → Type 0
+Sound rules t = (p : Triple) (n : ℕ) → Known t p n → Walk (ground_of t.scope) rules p n
 
 -- no rule makes a fact with fewer steps than its entry says, as far as entries up to the top go
-abbrev pub Closed : Scope → List Rule → ℕ → List ℕ → Type 0
-Closed c rules top w = (r : Rule) (p : Triple) (n : ℕ) → Among r rules → n < top → GivesIn (ground_of c) r (Known c w) (Known c w) p n → AtMost n (entry_of c w p)
-
--- entries go up to 4097, and the table has a place for every fact
-pub record Room (c : Scope) (top long : ℕ) : Type 0 where
-  pub low : top ≤ 4097
-  pub cells : c.symbols * c.states * c.states ≤ long
+abbrev pub Closed : List Rule → ℕ → Table → Type 0
+Closed rules top t = (r : Rule) (p : Triple) (n : ℕ) → Among r rules → n < top → GivesIn (ground_of t.scope) r (Known t) (Known t) p n → AtMost n (entry_of t p)

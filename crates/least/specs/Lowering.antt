@@ -6,24 +6,25 @@ use Rattle.model.specs.Sets.{Has}
 use Rattle.language.specs.declared.rule.Rule.{Rule}
 use Rattle.language.specs.declared.rule.Rule.TheVariants.{Empty, Letter, Lead, Same, Pair}
 use Rattle.logic.specs.Facts.{Triple}
-use Rattle.least.specs.declared.scope.Scope.{Scope}
+use Rattle.least.specs.declared.table.Table.{Table}
 use Rattle.least.specs.Walks.{GivesIn}
 use Rattle.least.specs.Entries.{ground_of, place, entry_of, In, Known, AtMost, Sound}
 
 -- the entry at the cell was lowered to a candidate, or no candidate below the top is lower
-pub record Lowers (top cell : ℕ) (Candidate : List ℕ → ℕ → Type 0) (before after : List ℕ) (fell : Bool) : Type 0 where
-  pub wrote : fell ≡ true → (n : ℕ) × Candidate before n × (after ≡ slice_set before cell (n + 1)) × (n < top) × ((slice_index before cell ≡ 0) ⊎ (n + 1 < slice_index before cell))
-  pub still : fell ≡ false → (after ≡ before) × ((n : ℕ) → Candidate before n → n < top → AtMost n (slice_index before cell))
+pub record Lowers (top cell : ℕ) (Candidate : Table → ℕ → Type 0) (before after : Table) (fell : Bool) : Type 0 where
+  pub same : after.scope ≡ before.scope
+  pub wrote : fell ≡ true → (n : ℕ) × Candidate before n × (after.entries.now ≡ slice_set before.entries.now cell (n + 1)) × (n < top) × ((slice_index before.entries.now cell ≡ 0) ⊎ (n + 1 < slice_index before.entries.now cell))
+  pub still : fell ≡ false → (after ≡ before) × ((n : ℕ) → Candidate before n → n < top → AtMost n (slice_index before.entries.now cell))
 
 -- the candidates: a given entry; one entry and `more` steps; two entries together
-abbrev pub Given : ℕ → List ℕ → ℕ → Type 0
-Given entry w n = entry ≡ n + 1
+abbrev pub Given : ℕ → Table → ℕ → Type 0
+Given entry t n = entry ≡ n + 1
 
-abbrev pub Lifted : ℕ → ℕ → List ℕ → ℕ → Type 0
-Lifted part more w n = (j : ℕ) × (slice_index w part ≡ j + 1) × (n ≡ j + more)
+abbrev pub Lifted : ℕ → ℕ → Table → ℕ → Type 0
+Lifted part more t n = (j : ℕ) × (slice_index t.entries.now part ≡ j + 1) × (n ≡ j + more)
 
-abbrev pub Summed : ℕ → ℕ → List ℕ → ℕ → Type 0
-Summed left right w n = (i : ℕ) × (j : ℕ) × (slice_index w left ≡ i + 1) × (slice_index w right ≡ j + 1) × (n ≡ i + j)
+abbrev pub Summed : ℕ → ℕ → Table → ℕ → Type 0
+Summed left right t n = (i : ℕ) × (j : ℕ) × (slice_index t.entries.now left ≡ i + 1) × (slice_index t.entries.now right ≡ j + 1) × (n ≡ i + j)
 
 -- the entries `known` and `second` together are less than `old` and at most the top
 abbrev pub Lower : ℕ → ℕ → ℕ → ℕ → Type 0
@@ -35,75 +36,76 @@ weight [] = 0
 weight (zero ∷ xs) = 2 ^ 32 + weight xs
 weight (suc x ∷ xs) = suc x + weight xs
 
--- a run of lowerings: a sound table stays sound, the table gets lighter if an entry fell, and if none fell it is as before and shut
-pub record Run (c : Scope) (rules : List Rule) (Shut : List ℕ → Type 0) (before after : List ℕ) (fell : Bool) : Type 0 where
-  pub sound : Sound c rules before → Sound c rules after
-  pub less : fell ≡ true → weight after < weight before
+-- a run of lowerings: the table is about the same, a sound table stays sound, the table gets lighter if an entry fell, and if none fell it is as before and shut
+pub record Run (rules : List Rule) (Shut : Table → Type 0) (before after : Table) (fell : Bool) : Type 0 where
+  pub same : after.scope ≡ before.scope
+  pub sound : Sound rules before → Sound rules after
+  pub less : fell ≡ true → weight after.entries.now < weight before.entries.now
   pub still : fell ≡ false → (after ≡ before) × Shut before
 
 -- whatever the other rules are
-abbrev pub Always : Scope → Rule → (List ℕ → Type 0) → List ℕ → List ℕ → Bool → Type 0
-Always c r Shut before after fell = (rules : List Rule) → Among r rules → Run c rules Shut before after fell
+abbrev pub Always : Rule → (Table → Type 0) → Table → Table → Bool → Type 0
+Always r Shut before after fell = (rules : List Rule) → Among r rules → Run rules Shut before after fell
 
 -- nothing is asked
-abbrev pub Anyhow : List ℕ → Type 0
-Anyhow w = Unit {0}
+abbrev pub Anyhow : Table → Type 0
+Anyhow t = Unit {0}
 
 -- f and g together are no less than h
-abbrev pub PairAt : Scope → ℕ → Triple → Triple → Triple → List ℕ → Type 0
-PairAt c top f g h w = (n : ℕ) → Summed (place c.states f) (place c.states g) w n → n < top → AtMost n (entry_of c w h)
+abbrev pub PairAt : ℕ → Triple → Triple → Triple → Table → Type 0
+PairAt top f g h t = (n : ℕ) → Summed (place t.scope.states f) (place t.scope.states g) t n → n < top → AtMost n (entry_of t h)
 
 -- nothing less comes by this edge before the fact f
-abbrev pub LedAt : Scope → ℕ → ℕ → ℕ → Triple → Edge → List ℕ → Type 0
-LedAt c top H a f e w = e.action ≡ a → Has c.guard e.from → e.to ≡ f.1 → (n : ℕ) → Lifted (place c.states f) 1 w n → n < top → AtMost n (entry_of c w (H, e.from, f.2))
+abbrev pub LedAt : ℕ → ℕ → ℕ → Triple → Edge → Table → Type 0
+LedAt top H a f e t = e.action ≡ a → Has t.scope.guard e.from → e.to ≡ f.1 → (n : ℕ) → Lifted (place t.scope.states f) 1 t n → n < top → AtMost n (entry_of t (H, e.from, f.2))
 
--- the same for the fact of B to t, if its entry lies between low and high
-abbrev pub LedIn : Scope → ℕ → ℕ → ℕ → ℕ → ℕ → ℕ → Edge → ℕ → List ℕ → Type 0
-LedIn c top low high H a B e t w = low ≤ entry_of c w (B, e.to, t) → entry_of c w (B, e.to, t) ≤ high → LedAt c top H a (B, e.to, t) e w
+-- the same for the fact of B to u, if its entry lies between low and high
+abbrev pub LedIn : ℕ → ℕ → ℕ → ℕ → ℕ → ℕ → Edge → ℕ → Table → Type 0
+LedIn top low high H a B e u t = low ≤ entry_of t (B, e.to, u) → entry_of t (B, e.to, u) ≤ high → LedAt top H a (B, e.to, u) e t
 
 -- for all facts of B
-abbrev pub LedAlong : Scope → ℕ → ℕ → ℕ → ℕ → ℕ → ℕ → Edge → List ℕ → Type 0
-LedAlong c top low high H a B e w = (t : ℕ) → t < c.states → LedIn c top low high H a B e t w
+abbrev pub LedAlong : ℕ → ℕ → ℕ → ℕ → ℕ → ℕ → Edge → Table → Type 0
+LedAlong top low high H a B e t = (u : ℕ) → u < t.scope.states → LedIn top low high H a B e u t
 
 -- nothing less comes by this edge alone
-abbrev pub LetterAt : Scope → ℕ → ℕ → ℕ → Edge → List ℕ → Type 0
-LetterAt c top H a e w = e.action ≡ a → Has c.guard e.from → (n : ℕ) → Given 2 w n → n < top → AtMost n (entry_of c w (H, e.from, e.to))
+abbrev pub LetterAt : ℕ → ℕ → ℕ → Edge → Table → Type 0
+LetterAt top H a e t = e.action ≡ a → Has t.scope.guard e.from → (n : ℕ) → Given 2 t n → n < top → AtMost n (entry_of t (H, e.from, e.to))
 
 -- nothing less comes by staying at s
-abbrev pub EmptyAt : Scope → ℕ → ℕ → ℕ → List ℕ → Type 0
-EmptyAt c top H s w = (n : ℕ) → Given 1 w n → n < top → AtMost n (entry_of c w (H, s, s))
+abbrev pub EmptyAt : ℕ → ℕ → ℕ → Table → Type 0
+EmptyAt top H s t = (n : ℕ) → Given 1 t n → n < top → AtMost n (entry_of t (H, s, s))
 
 -- no fact
 abbrev pub NoPart : Triple → ℕ → Type 0
 NoPart p n = ⊥
 
 -- the rule gives no less with no part
-abbrev pub ShutStart : Scope → ℕ → Rule → List ℕ → Type 0
-ShutStart c top r w = (p : Triple) (n : ℕ) → n < top → GivesIn (ground_of c) r NoPart NoPart p n → AtMost n (entry_of c w p)
+abbrev pub ShutStart : ℕ → Rule → Table → Type 0
+ShutStart top r t = (p : Triple) (n : ℕ) → n < top → GivesIn (ground_of t.scope) r NoPart NoPart p n → AtMost n (entry_of t p)
 
 -- the fact f alone, as the table has it
-abbrev pub This : Scope → List ℕ → Triple → Triple → ℕ → Type 0
-This c w f q j = (q ≡ f) × Known c w q j
+abbrev pub This : Table → Triple → Triple → ℕ → Type 0
+This t f q j = (q ≡ f) × Known t q j
 
 -- the rule gives no less with the fact f as its first part
-abbrev pub ShutBy : Scope → ℕ → Rule → Triple → List ℕ → Type 0
-ShutBy c top r f w = (p : Triple) (n : ℕ) → n < top → GivesIn (ground_of c) r (This c w f) (Known c w) p n → AtMost n (entry_of c w p)
+abbrev pub ShutBy : ℕ → Rule → Triple → Table → Type 0
+ShutBy top r f t = (p : Triple) (n : ℕ) → n < top → GivesIn (ground_of t.scope) r (This t f) (Known t) p n → AtMost n (entry_of t p)
 
 -- the same, of a rule that has a part
-abbrev pub ShutAt : Scope → ℕ → Rule → Triple → List ℕ → Type 0
-ShutAt c top (Empty H) f w = Unit {0}
-ShutAt c top (Letter H a) f w = Unit {0}
-ShutAt c top (Lead H a B) f w = ShutBy c top (Lead H a B) f w
-ShutAt c top (Same H B) f w = ShutBy c top (Same H B) f w
-ShutAt c top (Pair H B C) f w = ShutBy c top (Pair H B C) f w
+abbrev pub ShutAt : ℕ → Rule → Triple → Table → Type 0
+ShutAt top (Empty H) f t = Unit {0}
+ShutAt top (Letter H a) f t = Unit {0}
+ShutAt top (Lead H a B) f t = ShutBy top (Lead H a B) f t
+ShutAt top (Same H B) f t = ShutBy top (Same H B) f t
+ShutAt top (Pair H B C) f t = ShutBy top (Pair H B C) f t
 
 -- the same, of a rule that has a part and makes no step of its own
-abbrev pub ShutOn : Scope → ℕ → Rule → Triple → List ℕ → Type 0
-ShutOn c top (Empty H) f w = Unit {0}
-ShutOn c top (Letter H a) f w = Unit {0}
-ShutOn c top (Lead H a B) f w = Unit {0}
-ShutOn c top (Same H B) f w = ShutBy c top (Same H B) f w
-ShutOn c top (Pair H B C) f w = ShutBy c top (Pair H B C) f w
+abbrev pub ShutOn : ℕ → Rule → Triple → Table → Type 0
+ShutOn top (Empty H) f t = Unit {0}
+ShutOn top (Letter H a) f t = Unit {0}
+ShutOn top (Lead H a B) f t = Unit {0}
+ShutOn top (Same H B) f t = ShutBy top (Same H B) f t
+ShutOn top (Pair H B C) f t = ShutBy top (Pair H B C) f t
 
 -- X is the symbol of the first part of such a rule
 abbrev pub FirstPart : Rule → ℕ → Type 0
@@ -114,16 +116,16 @@ FirstPart (Same H B) X = X ≡ B
 FirstPart (Pair H B C) X = X ≡ B
 
 -- if the fact's entry lies between low and high
-abbrev pub ShutIn : Scope → ℕ → ℕ → ℕ → Rule → Triple → List ℕ → Type 0
-ShutIn c top low high r f w = low ≤ entry_of c w f → entry_of c w f ≤ high → ShutOn c top r f w
+abbrev pub ShutIn : ℕ → ℕ → ℕ → Rule → Triple → Table → Type 0
+ShutIn top low high r f t = low ≤ entry_of t f → entry_of t f ≤ high → ShutOn top r f t
 
 -- no rule with a part gives less with any fact whose entry lies there
-abbrev pub ShutRule : Scope → ℕ → ℕ → ℕ → Rule → List ℕ → Type 0
-ShutRule c top low high r w = (f : Triple) → In c f → low ≤ entry_of c w f → entry_of c w f ≤ high → ShutAt c top r f w
+abbrev pub ShutRule : ℕ → ℕ → ℕ → Rule → Table → Type 0
+ShutRule top low high r t = (f : Triple) → In t.scope f → low ≤ entry_of t f → entry_of t f ≤ high → ShutAt top r f t
 
 -- the same of all rules
-abbrev pub ShutAll : Scope → List Rule → ℕ → ℕ → ℕ → List ℕ → Type 0
-ShutAll c rules top low high w = (r : Rule) → Among r rules → ShutRule c top low high r w
+abbrev pub ShutAll : List Rule → ℕ → ℕ → ℕ → Table → Type 0
+ShutAll rules top low high t = (r : Rule) → Among r rules → ShutRule top low high r t
 
-abbrev pub ShutStarts : Scope → List Rule → ℕ → List ℕ → Type 0
-ShutStarts c rules top w = (r : Rule) → Among r rules → ShutStart c top r w
+abbrev pub ShutStarts : List Rule → ℕ → Table → Type 0
+ShutStarts rules top t = (r : Rule) → Among r rules → ShutStart top r t

@@ -2,15 +2,11 @@
 #![tactic(auto)]
 
 mod band;
-mod expanding;
 mod fact;
-mod leading;
-mod lowering;
 mod scope;
-mod starting;
-mod sweeping;
+mod table;
 
 pub use band::Band;
 pub use fact::Fact;
 pub use scope::Scope;
-pub use sweeping::{clear, settle, start, sweep};
+pub use table::Table;

@@ -1,8 +1,9 @@
 ghost use Rattle.std.specs.Prelude.{◌≡◌, ℕ, ◌*◌, ◌<◌, ◌≤◌, List};
 ghost use Rattle.model.specs.Models.{edges_of};
 ghost use Rattle.logic.specs.Facts.{ground};
-ghost use Rattle.least.specs.Entries.{ground_of, place as cell_of, In};
+ghost use Rattle.least.specs.Entries.{ground_of, place as cell_of, triple, In};
 
+use crate::fact::Fact;
 use crate::scope::Scope;
 use model::{Edge, Model, NumberSet};
 
@@ -36,7 +37,7 @@ impl<'a> Scope<'a> {
     }
 
     // The edges of the model.
-    pub fn edges(&self) -> &[Edge]
+    pub fn edges(&self) -> &'a [Edge]
         ensures { result.now ≡ edges_of self.now.model.now }
     {
         self.model.edges()
@@ -50,11 +51,11 @@ impl<'a> Scope<'a> {
     }
 
     // Where the table has the entry of a fact.
-    pub fn cell(&self, symbol: u8, from: u8, to: u8) -> usize
-        requires { In self.now (symbol, from, to) }
-        ensures { result ≡ cell_of self.now.states (symbol, from, to) }
+    pub fn cell(&self, fact: Fact) -> usize
+        requires { In self.now (triple fact) }
+        ensures { result ≡ cell_of self.now.states (triple fact) }
     {
-        let row = symbol as usize * self.states as usize + from as usize;
-        row * self.states as usize + to as usize
+        let row = fact.symbol as usize * self.states as usize + fact.from as usize;
+        row * self.states as usize + fact.to as usize
     }
 }

@@ -1,8 +1,0 @@
-use Rattle.std.proofs.Common.{ℕ, refl, arith}
-use Rattle.least.proofs.Runs.{lowers_like, lift_like}
-use Rattle.least.proofs.lowering.lift.Goals as goal
-
-pub returns : goal.returns
-returns c =
-    let like = λ (n : ℕ). lift_like c.args.part c.args.more c.args.work.now _ n refl (omega arith) in
-    lowers_like _ (λ n. (like n).0) (λ n. (like n).1) c.lower.ensures

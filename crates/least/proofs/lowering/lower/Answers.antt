@@ -1,7 +1,0 @@
-use Rattle.std.proofs.Common.{get_or, inl, inr, arith}
-use Rattle.least.proofs.Runs.{lowered}
-use native.Mathlib.Decide.{ℕ_discrete}
-use Rattle.least.proofs.lowering.lower.Goals as goal
-
-pub returns-then-given-old : goal.returns-then-given-old
-returns-then-given-old c = lowered _ _ _ _ c.requires.1 (omega arith) (elim (ℕ_discrete (get_or c.args.work.now c.args.cell 0) 0) [ yes e ↦ inl e | no n ↦ inr (omega arith) ])

@@ -1,9 +1,0 @@
-use Rattle.std.proofs.Common.{◌≡◌, ℕ, ◌<◌, Some}
-use Rattle.std.specs.List.{slice_get}
-use Rattle.language.specs.declared.rule.Rule.{Rule}
-use Rattle.least.specs.Lowering.{Run, ShutStart}
-use Rattle.least.proofs.sweeping.start.Given as goal
-
-abbrev pub invariant-loop-place : goal.invariant-loop-place
-invariant-loop-place g l = Run l.scope (g.L.UntilLanguage.rules l.language)
-    (λ w. (i : ℕ) → i < l.place → (r : Rule) → slice_get (g.L.UntilLanguage.rules l.language) i ≡ Some r → ShutStart l.scope l.top r w) l.initial.work l.work l.fell

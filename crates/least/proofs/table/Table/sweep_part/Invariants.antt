@@ -1,0 +1,6 @@
+use Rattle.std.proofs.Common.{ℕ, ◌<◌}
+use Rattle.least.specs.Lowering.{Always, ShutIn}
+use Rattle.least.proofs.table.Table.sweep_part.Given as goal
+
+abbrev pub invariant-loop-from : goal.invariant-loop-from
+invariant-loop-from l = Always l.rule (λ t. (s : ℕ) → s < l.from → (u : ℕ) → u < t.scope.states → ShutIn l.top l.band.low l.band.high l.rule (l.symbol, s, u) t) l.initial.self l.self l.fell

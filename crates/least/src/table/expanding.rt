@@ -1,0 +1,123 @@
+// Lowering by the rules that have a fact as a part.
+ghost use Rattle.std.specs.Prelude.{◌≡◌, ℕ, ◌<◌, ◌≤◌, length};
+ghost use Rattle.language.specs.Rules.{SymbolsBelow};
+ghost use Rattle.language.specs.declared.rule.Rule.TheVariants.{Pair};
+ghost use Rattle.least.specs.Entries.{triple, In};
+ghost use Rattle.least.specs.Lowering.{Always, Anyhow, ShutAt, ShutOn};
+
+use crate::fact::Fact;
+use crate::table::Table;
+use language::Rule;
+
+impl Table<'_> {
+    // By a pair rule with the fact as its first part.
+    fn expand_left(&mut self, top: u16, fact: Fact, head: u8, right: u8) -> bool
+        requires fact { In self.old.scope (triple fact) }
+        requires head { head < self.old.scope.symbols }
+        requires right { right < self.old.scope.symbols }
+        ensures { Always (Pair head fact.symbol right) (ShutAt top (Pair head fact.symbol right) (triple fact)) self.old self.new result }
+    {
+        let part = self.cell(fact);
+        let known = self.entries[part];
+        if known == 0 || known > top as u32 {
+            return false;
+        }
+        let others = self.cell(Fact {
+            symbol: right,
+            from: fact.to,
+            to: 0,
+        });
+        let heads = self.cell(Fact {
+            symbol: head,
+            from: fact.from,
+            to: 0,
+        });
+        if !self.any_lower(top, known, others, heads) {
+            return false;
+        }
+        let mut fell = false;
+        for to in 0..self.states() as usize {
+            fell |= self.join(top, part, others + to, heads + to);
+        }
+        fell
+    }
+
+    // By a pair rule with the fact as its second part.
+    fn expand_right(&mut self, top: u16, fact: Fact, head: u8, left: u8) -> bool
+        requires fact { In self.old.scope (triple fact) }
+        requires head { head < self.old.scope.symbols }
+        requires left { left < self.old.scope.symbols }
+        ensures { Always (Pair head left fact.symbol) Anyhow self.old self.new result }
+    {
+        let mut fell = false;
+        let part = self.cell(fact);
+        for from in 0..self.states() {
+            let other = self.cell(Fact {
+                symbol: left,
+                from,
+                to: fact.from,
+            });
+            let cell = self.cell(Fact {
+                symbol: head,
+                from,
+                to: fact.to,
+            });
+            fell |= self.join(top, other, part, cell);
+        }
+        fell
+    }
+
+    // By a pair rule, where the fact can be its first part.
+    fn expand_first(&mut self, top: u16, fact: Fact, head: u8, left: u8, right: u8) -> bool
+        requires fact { In self.old.scope (triple fact) }
+        requires within { SymbolsBelow self.old.scope.symbols (Pair head left right) }
+        ensures { Always (Pair head left right) (ShutAt top (Pair head left right) (triple fact)) self.old self.new result }
+    {
+        if left != fact.symbol {
+            return false;
+        }
+        self.expand_left(top, fact, head, right)
+    }
+
+    // By a pair rule, where the fact can be its second part.
+    fn expand_second(&mut self, top: u16, fact: Fact, head: u8, left: u8, right: u8) -> bool
+        requires fact { In self.old.scope (triple fact) }
+        requires within { SymbolsBelow self.old.scope.symbols (Pair head left right) }
+        ensures { Always (Pair head left right) Anyhow self.old self.new result }
+    {
+        if right != fact.symbol {
+            return false;
+        }
+        self.expand_right(top, fact, head, left)
+    }
+
+    // By a same or pair rule, where the fact can be a part of it; as the second part of a pair only if `both` is set.
+    pub(crate) fn expand(&mut self, top: u16, fact: Fact, rule: Rule, both: bool) -> bool
+        requires fact { In self.old.scope (triple fact) }
+        requires within { SymbolsBelow self.old.scope.symbols rule }
+        ensures { Always rule (ShutOn top rule (triple fact)) self.old self.new result }
+    {
+        match rule {
+            Rule::Same { head, body } => {
+                if body != fact.symbol {
+                    return false;
+                }
+                let part = self.cell(fact);
+                let cell = self.cell(Fact {
+                    symbol: head,
+                    ..fact
+                });
+                self.lift(top, part, 0, cell)
+            }
+            Rule::Pair { head, left, right } => {
+                let first = self.expand_first(top, fact, head, left, right);
+                if !both {
+                    return first;
+                }
+                let second = self.expand_second(top, fact, head, left, right);
+                first | second
+            }
+            Rule::Empty { .. } | Rule::Letter { .. } | Rule::Lead { .. } => false,
+        }
+    }
+}

@@ -1,0 +1,124 @@
+// Lowering by all rules, until nothing falls.
+ghost use Rattle.std.specs.Prelude.{◌≡◌, ℕ, ◌*◌, ◌<◌, ◌≤◌, length, slice_index};
+ghost use Rattle.language.specs.Rules.{SymbolsBelow, RulesWithin};
+ghost use Rattle.least.specs.Entries.{triple, In, Sound, Closed};
+ghost use Rattle.least.specs.Lowering.{Always, Run, ShutIn, ShutRule, ShutAll, ShutStarts};
+
+use crate::band::Band;
+use crate::fact::Fact;
+use crate::table::Table;
+use crate::table::leading::Leading;
+use language::{Rule, UntilLanguage};
+
+impl Table<'_> {
+    // Lowers by the rule with the fact as a part, if its entry lies in the band.
+    fn expand_in(&mut self, top: u16, band: Band, rule: Rule, fact: Fact) -> bool
+        requires within { SymbolsBelow self.old.scope.symbols rule }
+        requires fact { In self.old.scope (triple fact) }
+        ensures { Always rule (ShutIn top band.low band.high rule (triple fact)) self.old self.new result }
+    {
+        let known = self.entry(fact);
+        if known < band.low || known > band.high {
+            return false;
+        }
+        self.expand(top, fact, rule, band.both)
+    }
+
+    // Lowers by the rule with the facts of the symbol from the state as a part.
+    fn sweep_row(&mut self, top: u16, band: Band, rule: Rule, symbol: u8, from: u8) -> bool
+        requires within { SymbolsBelow self.old.scope.symbols rule }
+        requires symbol { symbol < self.old.scope.symbols }
+        requires from { from < self.old.scope.states }
+        ensures { Always rule (λ w. (t : ℕ) → t < w.scope.states → ShutIn top band.low band.high rule (symbol, from, t) w) self.old self.new result }
+    {
+        let mut fell = false;
+        for to in 0..self.states() {
+            fell |= self.expand_in(top, band, rule, Fact { symbol, from, to });
+        }
+        fell
+    }
+
+    // Lowers by the rule with the facts of the symbol as a part.
+    fn sweep_part(&mut self, top: u16, band: Band, rule: Rule, symbol: u8) -> bool
+        requires within { SymbolsBelow self.old.scope.symbols rule }
+        requires symbol { symbol < self.old.scope.symbols }
+        ensures { Always rule (λ w. (s : ℕ) → s < w.scope.states → (t : ℕ) → t < w.scope.states → ShutIn top band.low band.high rule (symbol, s, t) w) self.old self.new result }
+    {
+        let mut fell = false;
+        for from in 0..self.states() {
+            fell |= self.sweep_row(top, band, rule, symbol, from);
+        }
+        fell
+    }
+
+    // Lowers by the rule with all facts that have an entry in the band.
+    fn sweep_rule(&mut self, top: u16, band: Band, rule: Rule) -> bool
+        requires { SymbolsBelow self.old.scope.symbols rule }
+        ensures { Always rule (ShutRule top band.low band.high rule) self.old self.new result }
+    {
+        match rule {
+            Rule::Lead { head, action, rest } => {
+                self.sweep_lead(top, band, Leading { head, action, rest })
+            }
+            Rule::Same { body, .. } => self.sweep_part(top, band, rule, body),
+            Rule::Pair { left, right, .. } => {
+                let first = self.sweep_part(top, band, rule, left);
+                if !band.both || left == right {
+                    return first;
+                }
+                let second = self.sweep_part(top, band, rule, right);
+                first | second
+            }
+            Rule::Empty { .. } | Rule::Letter { .. } => false,
+        }
+    }
+
+    // Lowers by all rules with the facts that have an entry in the band.
+    pub fn sweep<L: UntilLanguage>(&mut self, language: &L, top: u16, band: Band) -> bool
+        requires { RulesWithin self.old.scope.symbols (L.rules language.now) }
+        ensures { Run (L.rules language.now) (ShutAll (L.rules language.now) top band.low band.high) self.old self.new result }
+    {
+        let mut fell = false;
+        for place in 0..language.rule_count() {
+            if let Some(rule) = language.rule(place) {
+                fell |= self.sweep_rule(top, band, rule);
+            }
+        }
+        fell
+    }
+
+    // Lowers by all rules that have no part.
+    pub fn start<L: UntilLanguage>(&mut self, language: &L, top: u16) -> bool
+        requires { RulesWithin self.old.scope.symbols (L.rules language.now) }
+        ensures { Run (L.rules language.now) (ShutStarts (L.rules language.now) top) self.old self.new result }
+    {
+        let mut fell = false;
+        for place in 0..language.rule_count() {
+            if let Some(rule) = language.rule(place) {
+                fell |= self.start_rule(top, rule);
+            }
+        }
+        fell
+    }
+
+    // Lowers until no rule gives less, as far as entries up to the top go.
+    pub fn settle<L: UntilLanguage>(&mut self, language: &L, top: u16)
+        requires { RulesWithin self.old.scope.symbols (L.rules language.now) }
+        ensures same { self.new.scope ≡ self.old.scope }
+        ensures sound { Sound (L.rules language.now) self.old → Sound (L.rules language.now) self.new }
+        ensures closed { Closed (L.rules language.now) top self.new }
+    {
+        loop {
+            let first = self.start(language, top);
+            let band = Band {
+                low: 1,
+                high: top as u32,
+                both: false,
+            };
+            let second = self.sweep(language, top, band);
+            if !(first | second) {
+                return;
+            }
+        }
+    }
+}
