@@ -33,7 +33,7 @@ among_middle (y ∷ xs) x ys = let (k, e) = among_middle xs x ys in (suc k, e)
 pub coming_among : {all start left after : List Rule} {x : Rule} (gone : List Rule) → start ≡ all → Yields GivesFirst start gone left → left ≡ x ∷ after → Among x all
 coming_among {all} {start} {left} {after} {x} gone from y is = subst (Among x) (sym (all_rules start gone left y ∙ ap (λ r. gone ++ r) is) ∙ from) (among_middle gone x after)
 
-among_last : (x : Rule) (xs : List Rule) (r : Rule) → Among r (xs ++ x ∷ []) → Among r xs ⊎ (r ≡ x)
+pub among_last : (x : Rule) (xs : List Rule) (r : Rule) → Among r (xs ++ x ∷ []) → Among r xs ⊎ (r ≡ x)
 among_last x [] r (zero, e) = inr (cc)
 among_last x [] r (suc k, e) = absurd (none k e)
   where

@@ -1,12 +1,14 @@
 -- Runs of lowerings, one after another.
-use Rattle.std.proofs.Common.{◌≡◌, ℕ, zero, suc, ◌+◌, ◌-◌, ◌*◌, ◌/◌, ◌^◌, ◌<◌, ◌≤◌, Bool, true, false, ◌||◌, ◌≢◌, ◌⊎◌, List, [], ◌∷◌, length, get_or, set, Some, sym, refl, ap, ◌∙◌, subst, inl, inr, ⊎_elim, true≢false, mul-le-mul_right, arith, get_or-set_other, get_or-set_same}
+use Rattle.std.proofs.Common.{◌≡◌, ℕ, zero, suc, ◌+◌, ◌-◌, ◌*◌, ◌/◌, ◌^◌, ◌<◌, ◌≤◌, Bool, true, false, ◌||◌, ◌≢◌, ◌⊎◌, List, [], ◌∷◌, ◌++◌, length, get_or, set, Some, sym, refl, ap, ◌∙◌, subst, inl, inr, ⊎_elim, true≢false, mul-le-mul_right, append-nil, arith, get_or-set_other, get_or-set_same}
 use mathlib.Core.Bool.{false≢true}
 use native.Mathlib.Decide.{dec_lt, ℕ_discrete}
 use lib.Arith.{digits_div}
 use Rattle.std.specs.List.{slice_get}
+use Rattle.std.specs.Iterator.{Yields}
 use Rattle.model.specs.Relations.{Among}
 use Rattle.model.proofs.Joins.{same_place, place_before}
 use Rattle.language.specs.declared.rule.Rule.{Rule}
+use Rattle.language.proofs.Coming.{GivesFirst, all_rules, among_last}
 use Rattle.logic.specs.Facts.{Triple}
 use Rattle.least.specs.declared.scope.Scope.{Scope}
 use Rattle.least.specs.declared.table.Table.{Table}
@@ -70,6 +72,10 @@ place_in c long p l i =
     let b : (p.0 * s + p.1 + 1) * s ≤ c.symbols * s * s = mul-le-mul_right s (omega (arith, i.from)) in
     omega (arith, i.to)
 
+-- when none is left, all rules came
+pub all_came : {all start left : List Rule} (gone : List Rule) → start ≡ all → Yields GivesFirst start gone left → left ≡ [] → all ≡ gone
+all_came {start = start} {left = left} gone from y none = sym from ∙ all_rules start gone left y ∙ ap (λ l. gone ++ l) none ∙ append-nil gone
+
 module _ (rules : List Rule) where
   -- one lowering, to the steps of a walk
   pub run_of : {top : ℕ} {D : Table → ℕ → Type 0} {before after : Table} {fell : Bool} (p : Triple) → In before.scope p → top < 2 ^ 16
@@ -122,12 +128,10 @@ module _ (rules : List Rule) where
   pub run_more : {P : ℕ → Table → Type 0} {a b d : Table} {x y : Bool} (i : ℕ) → Run rules (λ w. (j : ℕ) → j < i → P j w) a b x → Run rules (P i) b d y → Run rules (λ w. (j : ℕ) → j < i + 1 → P j w) a d (x || y)
   run_more {P} {a} i j l = run_like _ (λ (f, g) n n<. elim (dec_lt n i) [ yes h ↦ f n h | no h ↦ (let e : i ≡ n = omega arith in subst (λ n. P n a) e g) ]) (run_both j l)
 
-  -- a turn that does nothing
-  pub run_skip : {P : ℕ → Table → Type 0} {a b : Table} {x : Bool} (i : ℕ) → Run rules (λ w. (j : ℕ) → j < i → P j w) a b x → P i a → Run rules (λ w. (j : ℕ) → j < i + 1 → P j w) a b x
-  run_skip {P} {a} i j here = run_like _ (λ f n n<. elim (dec_lt n i) [ yes h ↦ f n h | no h ↦ (let e : i ≡ n = omega arith in subst (λ n. P n a) e here) ]) j
-
-  pub run_as : {P : Table → Type 0} {a b d : Table} {x y : Bool} → d ≡ b → y ≡ x → Run rules P a b x → Run rules P a d y
-  run_as {P} {a} {b} {d} {x} {y} e f j = subst (λ z. Run rules P a d z) (sym f) (subst (λ z. Run rules P a z x) (sym e) j)
+  -- a turn at the rule that comes next
+  pub run_next : {P : Rule → Table → Type 0} (gone : List Rule) (x : Rule) {a b d : Table} {y z : Bool}
+      → Run rules (λ w. (r : Rule) → Among r gone → P r w) a b y → Run rules (P x) b d z → Run rules (λ w. (r : Rule) → Among r (gone ++ x ∷ []) → P r w) a d (y || z)
+  run_next {P} gone x {a} j l = run_like _ (λ (f, g) r r∈. ⊎_elim (f r) (λ e. subst (λ s. P s a) (sym e) g) (among_last x gone r r∈)) (run_both j l)
 
   -- a turn at the element of a list that stands at the loop's place
   pub run_at : {X : Type 0} {P : X → Table → Type 0} (xs : List X) (i : ℕ) (x : X) {a b d : Table} {y z : Bool} → slice_get xs i ≡ Some x

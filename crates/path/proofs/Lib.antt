@@ -2,5 +2,4 @@ mod Splitting
 mod Doing
 mod Sizes
 mod Piles
-mod Joining
 mod Nearest

@@ -1,5 +1,5 @@
 -- Ways to a fact from facts with fewer steps, and that there is one.
-use Rattle.std.proofs.Common.{◌≡◌, ℕ, zero, suc, ◌+◌, ◌-◌, ◌<◌, ◌≤◌, List, [], ◌∷◌, length, get_or, sym, refl, ap, ◌∙◌, subst, inl, inr, ⊎_elim, append-nil, arith}
+use Rattle.std.proofs.Common.{◌≡◌, ℕ, zero, suc, ◌+◌, ◌-◌, ◌<◌, ◌≤◌, List, [], ◌∷◌, length, sym, refl, ◌∙◌, subst, inl, inr, ⊎_elim, append-nil, arith}
 use native.Mathlib.Decide.{ℕ_discrete}
 use Rattle.model.specs.declared.edge.Edge.{Edge}
 use Rattle.model.specs.declared.edge.Step.{Step}
@@ -9,14 +9,14 @@ use Rattle.model.specs.Relations.{Among, Exactly, Joined}
 use Rattle.model.specs.Sets.{Has}
 use Rattle.language.specs.declared.rule.Rule.{Rule}
 use Rattle.language.specs.declared.rule.Rule.TheVariants.{Empty, Letter, Lead, Same, Pair}
-use Rattle.language.specs.Rules.{head_of, SymbolsBelow, RulesWithin}
+use Rattle.language.specs.Rules.{head_of, SymbolsBelow, RulesWithin, BySome}
 use Rattle.language.specs.Words.{Word}
 use Rattle.language.specs.Derivations.{Derives}
 use Rattle.logic.specs.Paths.{word}
 use Rattle.logic.specs.Facts.{Triple, Guarded}
-use Rattle.least.specs.declared.scope.Scope.{Scope}
+use Rattle.least.specs.declared.table.Table.{Table}
 use Rattle.least.specs.Walks.{WalkWithin, GivesIn}
-use Rattle.least.specs.Entries.{ground_of, place, entry_of, In, Known, Sound, Closed}
+use Rattle.least.specs.Entries.{ground_of, entry_of, In, Known, Sound, Closed}
 use Rattle.least.proofs.Walking.{walk_to, derives_lead, derives_same, derives_pair}
 use Rattle.least.proofs.Least.{least_known}
 use Rattle.path.specs.declared.split.Split.{Split}
@@ -25,40 +25,40 @@ use Rattle.path.specs.Unfolding.{Splits, StepsBy, Sums, Less}
 use Rattle.path.specs.Reaching.{Keeps, Reached, ReachShut, NoShorter}
 
 -- a path of no steps stays where it is, and its symbol derives the empty word
-pub still : (c : Scope) (rules : List Rule) (w : List ℕ) → Sound c rules w → (p : Triple) → Known c w p 0 → (p.1 ≡ p.2) × Derives rules p.0 []
-still c rules w sound p kn = let (path, g, d, len) = sound p 0 kn in go path g d len
+pub still : (rules : List Rule) (w : Table) → Sound rules w → (p : Triple) → Known w p 0 → (p.1 ≡ p.2) × Derives rules p.0 []
+still rules w sound p kn = let (path, g, d, len) = sound p 0 kn in go path g d len
   where
-    go : (path : List Step) → Guarded (ground_of c) p.1 path p.2 → Derives rules p.0 (word c.model.now path) → length path ≡ 0 → (p.1 ≡ p.2) × Derives rules p.0 []
+    go : (path : List Step) → Guarded (ground_of w.scope) p.1 path p.2 → Derives rules p.0 (word w.scope.model.now path) → length path ≡ 0 → (p.1 ≡ p.2) × Derives rules p.0 []
     go [] g d len = (g.1, d)
     go (x ∷ path) g d len = absurd (omega arith)
 
-module _ (c : Scope) (rules : List Rule) (w : List ℕ) where
-  pub letter_last : (H a s t n : ℕ) (e : Edge) → Among (Letter H a) rules → n ≡ 1 → HasEdge c.model.now e → StepsBy c.guard a s t e → Splits c rules w (record { symbol = H; from = s; to = t }) n (Last a t)
+module _ (rules : List Rule) (w : Table) where
+  pub letter_last : (H a s t n : ℕ) (e : Edge) → Among (Letter H a) rules → n ≡ 1 → HasEdge w.scope.model.now e → StepsBy w.scope.guard a s t e → Splits rules w (record { symbol = H; from = s; to = t }) n (Last a t)
   letter_last H a s t n e r∈ z e∈ (f, ea, et, g) = (z, refl, e, (e∈, f, ea, g), et, (1, (_, r∈, (refl, refl))))
 
-  pub lead_last : (H a B s t via n : ℕ) (e : Edge) → Sound c rules w → Among (Lead H a B) rules → n ≡ 1 → HasEdge c.model.now e → StepsBy c.guard a s via e → In c (B, via, t) → entry_of c w (B, via, t) ≡ 1
-      → Splits c rules w (record { symbol = H; from = s; to = t }) n (Last a t)
+  pub lead_last : (H a B s t via n : ℕ) (e : Edge) → Sound rules w → Among (Lead H a B) rules → n ≡ 1 → HasEdge w.scope.model.now e → StepsBy w.scope.guard a s via e → In w.scope (B, via, t) → entry_of w (B, via, t) ≡ 1
+      → Splits rules w (record { symbol = H; from = s; to = t }) n (Last a t)
   lead_last H a B s t via n e sound r∈ z e∈ (f, ea, et, g) i is =
-      let both = still c rules w sound (B, via, t) (record { there = i; is = omega arith }) in
+      let both = still rules w sound (B, via, t) (record { there = i; is = omega arith }) in
       (z, refl, e, (e∈, f, ea, g), et ∙ both.0, derives_lead rules H a B [] r∈ both.1)
 
-  pub lead_onward : (H a B s t via n : ℕ) (e : Edge) → Among (Lead H a B) rules → 1 < n → HasEdge c.model.now e → StepsBy c.guard a s via e → In c (B, via, t) → entry_of c w (B, via, t) ≡ n
-      → Splits c rules w (record { symbol = H; from = s; to = t }) n (Onward a via B)
+  pub lead_onward : (H a B s t via n : ℕ) (e : Edge) → Among (Lead H a B) rules → 1 < n → HasEdge w.scope.model.now e → StepsBy w.scope.guard a s via e → In w.scope (B, via, t) → entry_of w (B, via, t) ≡ n
+      → Splits rules w (record { symbol = H; from = s; to = t }) n (Onward a via B)
   lead_onward H a B s t via n e r∈ l e∈ (f, ea, et, g) i is =
       (e, (e∈, f, ea, g), et, n - 1, omega arith, omega arith, record { there = i; is = omega arith }, λ v d. derives_lead rules H a B v r∈ d)
 
-  pub pair_both : (H B C s t u n : ℕ) → Among (Pair H B C) rules → In c (B, s, u) → In c (C, u, t) → Sums c w B C s t (n + 1) u → Splits c rules w (record { symbol = H; from = s; to = t }) n (Both B u C)
+  pub pair_both : (H B C s t u n : ℕ) → Among (Pair H B C) rules → In w.scope (B, s, u) → In w.scope (C, u, t) → Sums w B C s t (n + 1) u → Splits rules w (record { symbol = H; from = s; to = t }) n (Both B u C)
   pair_both H B C s t u n r∈ i₁ i₂ (a, b, d) =
-      let e₁ = entry_of c w (B, s, u) in
+      let e₁ = entry_of w (B, s, u) in
       (e₁ - 1, n + 1 - e₁, omega arith, omega arith, omega arith, record { there = i₁; is = omega arith }, record { there = i₂; is = omega arith }, λ v x d₁ d₂. derives_pair rules H B C v x r∈ d₁ d₂)
 
-  pub letter_not : (H a s t n : ℕ) → ((e : Edge) × HasEdge c.model.now e × StepsBy c.guard a s t e → ⊥) → GivesIn (ground_of c) (Letter H a) (Less c w n) (Less c w n) (H, s, t) n → ⊥
+  pub letter_not : (H a s t n : ℕ) → ((e : Edge) × HasEdge w.scope.model.now e × StepsBy w.scope.guard a s t e → ⊥) → GivesIn (ground_of w.scope) (Letter H a) (Less w n) (Less w n) (H, s, t) n → ⊥
   letter_not H a s t n none (x, e, (e∈, f, ea, g), et, z) = none (e, e∈, (f, ea, sym et, g))
 
-  pub lead_not : (H a B s t n : ℕ) → ((e : Edge) → HasEdge c.model.now e → StepsBy c.guard a s e.to e → entry_of c w (B, e.to, t) ≡ n → ⊥) → GivesIn (ground_of c) (Lead H a B) (Less c w n) (Less c w n) (H, s, t) n → ⊥
+  pub lead_not : (H a B s t n : ℕ) → ((e : Edge) → HasEdge w.scope.model.now e → StepsBy w.scope.guard a s e.to e → entry_of w (B, e.to, t) ≡ n → ⊥) → GivesIn (ground_of w.scope) (Lead H a B) (Less w n) (Less w n) (H, s, t) n → ⊥
   lead_not H a B s t n none (x, e, (e∈, f, ea, g), j, (kn, l), z) = none e e∈ (f, ea, refl, g) (kn.is ∙ sym z)
 
-  pub pair_not : (H B C s t n : ℕ) → ((u : ℕ) → u < c.states → Sums c w B C s t (n + 1) u → ⊥) → GivesIn (ground_of c) (Pair H B C) (Less c w n) (Less c w n) (H, s, t) n → ⊥
+  pub pair_not : (H B C s t n : ℕ) → ((u : ℕ) → u < w.scope.states → Sums w B C s t (n + 1) u → ⊥) → GivesIn (ground_of w.scope) (Pair H B C) (Less w n) (Less w n) (H, s, t) n → ⊥
   pair_not H B C s t n none (x, u, i, j, (k₁, l₁), (k₂, l₂), z) = none u k₁.there.to (omega (arith, k₁.is), omega (arith, k₁.is), omega (arith, k₁.is, k₂.is))
 
 pub head_in : (k : ℕ) (r : Rule) → SymbolsBelow k r → head_of r < k
@@ -68,43 +68,43 @@ head_in k (Lead H a B) w = w.0
 head_in k (Same H B) w = w.0
 head_in k (Pair H B C) w = w.0
 
-module _ (c : Scope) (rules : List Rule) (w : List ℕ) (sound : Sound c rules w) (s t : ℕ) (ls : s < c.states) (lt : t < c.states) where
+module _ (rules : List Rule) (w : Table) (sound : Sound rules w) (s t : ℕ) (ls : s < w.scope.states) (lt : t < w.scope.states) where
   -- what a rule keeps
-  keeps_derives : (e : ℕ) (r : Rule) (y : ℕ) → Among r rules → SymbolsBelow c.symbols r → Keeps c w s t e r y → (y < c.symbols) × (entry_of c w (y, s, t) ≡ e) × ((v : Word) → Derives rules y v → Derives rules (head_of r) v)
+  keeps_derives : (e : ℕ) (r : Rule) (y : ℕ) → Among r rules → SymbolsBelow w.scope.symbols r → Keeps w s t e r y → (y < w.scope.symbols) × (entry_of w (y, s, t) ≡ e) × ((v : Word) → Derives rules y v → Derives rules (head_of r) v)
   keeps_derives e (Empty H) y r∈ wi d = absurd d
   keeps_derives e (Letter H a) y r∈ wi d = absurd d
   keeps_derives e (Lead H a B) y r∈ wi d = absurd d
   keeps_derives e (Same H B) y r∈ wi (q, is) =
-      (subst (λ z. z < c.symbols) (sym q) wi.1, subst (λ z. entry_of c w (z, s, t) ≡ e) (sym q) is, λ v d. derives_same rules H B v r∈ (subst (λ z. Derives rules z v) q d))
+      (subst (λ z. z < w.scope.symbols) (sym q) wi.1, subst (λ z. entry_of w (z, s, t) ≡ e) (sym q) is, λ v d. derives_same rules H B v r∈ (subst (λ z. Derives rules z v) q d))
   keeps_derives e (Pair H B C) y r∈ wi (inl (q, z, is)) =
-      let empty = (still c rules w sound (B, s, s) (record { there = record { symbol = wi.1; from = ls; to = ls }; is = omega arith })).1 in
-      (subst (λ z. z < c.symbols) (sym q) wi.2, subst (λ z. entry_of c w (z, s, t) ≡ e) (sym q) is, λ v d. derives_pair rules H B C [] v r∈ empty (subst (λ z. Derives rules z v) q d))
+      let empty = (still rules w sound (B, s, s) (record { there = record { symbol = wi.1; from = ls; to = ls }; is = omega arith })).1 in
+      (subst (λ z. z < w.scope.symbols) (sym q) wi.2, subst (λ z. entry_of w (z, s, t) ≡ e) (sym q) is, λ v d. derives_pair rules H B C [] v r∈ empty (subst (λ z. Derives rules z v) q d))
   keeps_derives e (Pair H B C) y r∈ wi (inr (q, z, is)) =
-      let empty = (still c rules w sound (C, t, t) (record { there = record { symbol = wi.2; from = lt; to = lt }; is = omega arith })).1 in
-      (subst (λ z. z < c.symbols) (sym q) wi.1, subst (λ z. entry_of c w (z, s, t) ≡ e) (sym q) is, λ v d. subst (Derives rules H) (append-nil v) (derives_pair rules H B C v [] r∈ (subst (λ z. Derives rules z v) q d) empty))
+      let empty = (still rules w sound (C, t, t) (record { there = record { symbol = wi.2; from = lt; to = lt }; is = omega arith })).1 in
+      (subst (λ z. z < w.scope.symbols) (sym q) wi.1, subst (λ z. entry_of w (z, s, t) ≡ e) (sym q) is, λ v d. subst (Derives rules H) (append-nil v) (derives_pair rules H B C v [] r∈ (subst (λ z. Derives rules z v) q d) empty))
 
-  pub reached_more : (e X : ℕ) (mask more : NumberSet) → RulesWithin c.symbols rules → Reached c rules w s t e X mask
-      → Joined (Has mask) (Has more) (λ y. (x : Rule) × Among x rules × (Has mask (head_of x) × Keeps c w s t e x y)) → Reached c rules w s t e X more
+  pub reached_more : (e X : ℕ) (mask more : NumberSet) → RulesWithin w.scope.symbols rules → Reached rules w s t e X mask
+      → Joined (Has mask) (Has more) (BySome (λ x y. Has mask (head_of x) × Keeps w s t e x y) rules) → Reached rules w s t e X more
   reached_more e X mask more in_rules old j = record {
     first = j.keeps X old.first;
     every = λ y h. ⊎_elim (old.every y) (λ (x, x∈, (hm, kp)). let (l, is, up) = keeps_derives e x y x∈ (in_rules x x∈) kp in (l, is, λ v d. (old.every (head_of x) hm).2 v (up v d))) (j.only y h);
   }
 
   -- a symbol of the mask has a way from facts with fewer steps
-  module _ (top n X : ℕ) (mask : NumberSet) (pos : 0 < n) (low : n < top) (in_rules : RulesWithin c.symbols rules) (closed : Closed c rules top w)
-      (reached : Reached c rules w s t (n + 1) X mask) (shut : ReachShut c rules w s t (n + 1) mask) (none : (r : Rule) → Among r rules → NoShorter c w s t (n + 1) mask r) where
-    part : (h : ℕ) (q : Triple) (j : ℕ) → q.0 < c.symbols → j < top → WalkWithin (ground_of c) rules h q j → (i : ℕ) × (i ≤ j) × Known c w q i
-    part h q j l j< f = least_known c rules top in_rules w closed h q j l j< f
+  module _ (top n X : ℕ) (mask : NumberSet) (pos : 0 < n) (low : n < top) (in_rules : RulesWithin w.scope.symbols rules) (closed : Closed rules top w)
+      (reached : Reached rules w s t (n + 1) X mask) (shut : ReachShut rules w s t (n + 1) mask) (none : (r : Rule) → Among r rules → NoShorter w s t (n + 1) mask r) where
+    part : (h : ℕ) (q : Triple) (j : ℕ) → q.0 < w.scope.symbols → j < top → WalkWithin (ground_of w.scope) rules h q j → (i : ℕ) × (i ≤ j) × Known w q i
+    part h q j l j< f = least_known w rules top in_rules closed h q j l j< f
 
     -- no rule gives the head fewer steps
-    at_least : (r : Rule) (i : ℕ) → Among r rules → i < top → Has mask (head_of r) → GivesIn (ground_of c) r (Known c w) (Known c w) (head_of r, s, t) i → n ≤ i
+    at_least : (r : Rule) (i : ℕ) → Among r rules → i < top → Has mask (head_of r) → GivesIn (ground_of w.scope) r (Known w) (Known w) (head_of r, s, t) i → n ≤ i
     at_least r i r∈ i< hm d = let a = closed r (head_of r, s, t) i r∈ i< d in omega (arith, a.low, (reached.every (head_of r) hm).1)
 
-    stays : (x y : ℕ) (path : List Step) → Guarded (ground_of c) x path y → length path ≡ 0 → x ≡ y
+    stays : (x y : ℕ) (path : List Step) → Guarded (ground_of w.scope) x path y → length path ≡ 0 → x ≡ y
     stays x y [] g l = g.1
     stays x y (z ∷ p) g l = absurd (omega arith)
 
-    by : (h : ℕ) → ((y : ℕ) → Has mask y → WalkWithin (ground_of c) rules h (y, s, t) n → ⊥) → (r : Rule) (y : ℕ) → Among r rules → SymbolsBelow c.symbols r → Has mask y → GivesIn (ground_of c) r (WalkWithin (ground_of c) rules h) (WalkWithin (ground_of c) rules h) (y, s, t) n → ⊥
+    by : (h : ℕ) → ((y : ℕ) → Has mask y → WalkWithin (ground_of w.scope) rules h (y, s, t) n → ⊥) → (r : Rule) (y : ℕ) → Among r rules → SymbolsBelow w.scope.symbols r → Has mask y → GivesIn (ground_of w.scope) r (WalkWithin (ground_of w.scope) rules h) (WalkWithin (ground_of w.scope) rules h) (y, s, t) n → ⊥
     by h ih (Empty H) y r∈ wi hm (x, a, b, z) = omega arith
     by h ih (Letter H a) y r∈ wi hm (x, e, ld, et, z) = none (Letter H a) r∈ (subst (Has mask) x hm) n refl (refl, e, ld, et, z)
     by h ih (Lead H a B) y r∈ wi hm (x, e, ld, j, f, z) =
@@ -121,43 +121,46 @@ module _ (c : Scope) (rules : List Rule) (w : List ℕ) (sound : Sound c rules w
         let b = at_least (Pair H B C) (i' + j') r∈ (omega arith) (subst (Has mask) x hm) (refl, u, i', j', k₁, k₂, refl) in
         go i' j' k₁ k₂ (omega arith) (omega arith) (ℕ_discrete i 0) (ℕ_discrete j 0)
       where
-        go : (i' j' : ℕ) → Known c w (B, s, u) i' → Known c w (C, u, t) j' → i' ≡ i → j' ≡ j → Dec (i ≡ 0) → Dec (j ≡ 0) → ⊥
+        go : (i' j' : ℕ) → Known w (B, s, u) i' → Known w (C, u, t) j' → i' ≡ i → j' ≡ j → Dec (i ≡ 0) → Dec (j ≡ 0) → ⊥
         go i' j' k₁ k₂ e₁ e₂ (yes zi) d =
             let us : u ≡ s = sym (stays s u f₁.0 f₁.1 (f₁.3 ∙ zi)) in
-            let a : entry_of c w (B, s, s) ≡ 1 = subst (λ y. entry_of c w (B, s, y) ≡ 1) us (omega (arith, k₁.is)) in
-            let b : entry_of c w (C, s, t) ≡ n + 1 = subst (λ y. entry_of c w (C, y, t) ≡ n + 1) us (omega (arith, k₂.is)) in
+            let a : entry_of w (B, s, s) ≡ 1 = subst (λ y. entry_of w (B, s, y) ≡ 1) us (omega (arith, k₁.is)) in
+            let b : entry_of w (C, s, t) ≡ n + 1 = subst (λ y. entry_of w (C, y, t) ≡ n + 1) us (omega (arith, k₂.is)) in
             let jn : j ≡ n = omega arith in
-            ih C (shut (Pair H B C) C r∈ (subst (Has mask) x hm) (inl (refl, a, b))) (subst (λ y. WalkWithin (ground_of c) rules h (C, y, t) n) us (subst (WalkWithin (ground_of c) rules h (C, u, t)) jn f₂))
+            ih C (shut (Pair H B C) C r∈ (subst (Has mask) x hm) (inl (refl, a, b))) (subst (λ y. WalkWithin (ground_of w.scope) rules h (C, y, t) n) us (subst (WalkWithin (ground_of w.scope) rules h (C, u, t)) jn f₂))
         go i' j' k₁ k₂ e₁ e₂ (no ni) (yes zj) =
             let us : u ≡ t = stays u t f₂.0 f₂.1 (f₂.3 ∙ zj) in
-            let a : entry_of c w (C, t, t) ≡ 1 = subst (λ y. entry_of c w (C, y, t) ≡ 1) us (omega (arith, k₂.is)) in
-            let b : entry_of c w (B, s, t) ≡ n + 1 = subst (λ y. entry_of c w (B, s, y) ≡ n + 1) us (omega (arith, k₁.is)) in
+            let a : entry_of w (C, t, t) ≡ 1 = subst (λ y. entry_of w (C, y, t) ≡ 1) us (omega (arith, k₂.is)) in
+            let b : entry_of w (B, s, t) ≡ n + 1 = subst (λ y. entry_of w (B, s, y) ≡ n + 1) us (omega (arith, k₁.is)) in
             let jn : i ≡ n = omega arith in
-            ih B (shut (Pair H B C) B r∈ (subst (Has mask) x hm) (inr (refl, a, b))) (subst (λ y. WalkWithin (ground_of c) rules h (B, s, y) n) us (subst (WalkWithin (ground_of c) rules h (B, s, u)) jn f₁))
+            ih B (shut (Pair H B C) B r∈ (subst (Has mask) x hm) (inr (refl, a, b))) (subst (λ y. WalkWithin (ground_of w.scope) rules h (B, s, y) n) us (subst (WalkWithin (ground_of w.scope) rules h (B, s, u)) jn f₁))
         go i' j' k₁ k₂ e₁ e₂ (no ni) (no nj) = none (Pair H B C) r∈ (subst (Has mask) x hm) n refl (refl, u, i', j', (k₁, omega arith), (k₂, omega arith), omega arith)
 
-    pub stuck : (h : ℕ) (y : ℕ) → Has mask y → WalkWithin (ground_of c) rules h (y, s, t) n → ⊥
+    pub stuck : (h : ℕ) (y : ℕ) → Has mask y → WalkWithin (ground_of w.scope) rules h (y, s, t) n → ⊥
     stuck zero y hm f = f.2
-    stuck (suc h) y hm f = by h (stuck h) f.2.0 y f.2.1 (in_rules f.2.0 f.2.1) hm (walk_to (ground_of c) rules h f.2.0 (y, s, t) n f.0 f.1 f.2.2 f.3)
+    stuck (suc h) y hm f = by h (stuck h) f.2.0 y f.2.1 (in_rules f.2.0 f.2.1) hm (walk_to (ground_of w.scope) rules h f.2.0 (y, s, t) n f.0 f.1 f.2.2 f.3)
 
 -- the same way for a symbol that derives as much
-pub splits_from : (c : Scope) (rules : List Rule) (w : List ℕ) (X y s t n : ℕ) → ((v : Word) → Derives rules y v → Derives rules X v) → (sp : Split)
-    → Splits c rules w (record { symbol = y; from = s; to = t }) n sp → Splits c rules w (record { symbol = X; from = s; to = t }) n sp
-splits_from c rules w X y s t n up (Last a u) (z, q, e, ld, et, d) = (z, q, e, ld, et, up _ d)
-splits_from c rules w X y s t n up (Onward a u B) (e, ld, et, j, p, z, kn, d) = (e, ld, et, j, p, z, kn, λ v dv. up _ (d v dv))
-splits_from c rules w X y s t n up (Both B u C) (i, j, p, q, z, k₁, k₂, d) = (i, j, p, q, z, k₁, k₂, λ v x dv dx. up _ (d v x dv dx))
+pub splits_from : (rules : List Rule) (w : Table) (X y s t n : ℕ) → ((v : Word) → Derives rules y v → Derives rules X v) → (sp : Split)
+    → Splits rules w (record { symbol = y; from = s; to = t }) n sp → Splits rules w (record { symbol = X; from = s; to = t }) n sp
+splits_from rules w X y s t n up (Last a u) (z, q, e, ld, et, d) = (z, q, e, ld, et, up _ d)
+splits_from rules w X y s t n up (Onward a u B) (e, ld, et, j, p, z, kn, d) = (e, ld, et, j, p, z, kn, λ v dv. up _ (d v dv))
+splits_from rules w X y s t n up (Both B u C) (i, j, p, q, z, k₁, k₂, d) = (i, j, p, q, z, k₁, k₂, λ v x dv dx. up _ (d v x dv dx))
 
-pub pair_keeps : (sc : Scope) (w : List ℕ) (s t e H B C a b c d : ℕ) (first second both : NumberSet) → a ≡ place sc.states (B, s, s) → b ≡ place sc.states (C, s, t) → c ≡ place sc.states (C, t, t) → d ≡ place sc.states (B, s, t)
-    → Exactly (Has second) (λ y. (y ≡ C) × (get_or w a 0 ≡ 1) × (get_or w b 0 ≡ e)) → Exactly (Has first) (λ y. (y ≡ B) × (get_or w c 0 ≡ 1) × (get_or w d 0 ≡ e))
-    → Joined (Has second) (Has both) (Has first) → Exactly (Has both) (Keeps sc w s t e (Pair H B C))
-pair_keeps sc w s t e H B C a b c d first second both ea eb ec ed x₂ x₁ j y =
-    let at : ℕ → ℕ = λ n. get_or w n 0 in (
-      λ h. ⊎_elim (λ h₂. let (q, z, i) = (x₂ y).0 h₂ in inl (q, sym (ap at ea) ∙ z, sym (ap at eb) ∙ i)) (λ h₁. let (q, z, i) = (x₁ y).0 h₁ in inr (q, sym (ap at ec) ∙ z, sym (ap at ed) ∙ i)) (j.only y h),
-      λ k. ⊎_elim (λ (q, z, i). j.keeps y ((x₂ y).1 (q, ap at ea ∙ z, ap at eb ∙ i))) (λ (q, z, i). j.puts y ((x₁ y).1 (q, ap at ec ∙ z, ap at ed ∙ i))) k,
-    )
+pub same_keeps : (w : Table) (s t e H B one rest : ℕ) (all : NumberSet) → one ≡ 1 → rest ≡ entry_of w (B, s, t) → Exactly (Has all) (λ y. (y ≡ B) × (one ≡ 1) × (rest ≡ e)) → Exactly (Has all) (Keeps w s t e (Same H B))
+same_keeps w s t e H B one rest all is eq x y = ((λ h. let (q, z, i) = (x y).0 h in (q, sym eq ∙ i)), λ (q, i). (x y).1 (q, is, eq ∙ i))
 
-pub reached_one : (c : Scope) (rules : List Rule) (w : List ℕ) (s t e X : ℕ) (mask : NumberSet) → Exactly (Has mask) (λ y. (y ≡ X) × (X < 32)) → X < c.symbols → entry_of c w (X, s, t) ≡ e → Reached c rules w s t e X mask
-reached_one c rules w s t e X mask is l here = record {
-  first = (is X).1 (refl, omega (arith, c.few_symbols));
-  every = λ y h. let q : y ≡ X = ((is y).0 h).0 in (subst (λ z. z < c.symbols) (sym q) l, subst (λ z. entry_of c w (z, s, t) ≡ e) (sym q) here, λ v d. subst (λ z. Derives rules z v) q d);
+pub pair_keeps : (w : Table) (s t e H B C none_left all_right none_right all_left : ℕ) (first second both : NumberSet)
+    → none_left ≡ entry_of w (B, s, s) → all_right ≡ entry_of w (C, s, t) → none_right ≡ entry_of w (C, t, t) → all_left ≡ entry_of w (B, s, t)
+    → Exactly (Has second) (λ y. (y ≡ C) × (none_left ≡ 1) × (all_right ≡ e)) → Exactly (Has first) (λ y. (y ≡ B) × (none_right ≡ 1) × (all_left ≡ e))
+    → Joined (Has second) (Has both) (Has first) → Exactly (Has both) (Keeps w s t e (Pair H B C))
+pair_keeps w s t e H B C none_left all_right none_right all_left first second both ea eb ec ed x₂ x₁ j y = (
+  λ h. ⊎_elim (λ h₂. let (q, z, i) = (x₂ y).0 h₂ in inl (q, sym ea ∙ z, sym eb ∙ i)) (λ h₁. let (q, z, i) = (x₁ y).0 h₁ in inr (q, sym ec ∙ z, sym ed ∙ i)) (j.only y h),
+  λ k. ⊎_elim (λ (q, z, i). j.keeps y ((x₂ y).1 (q, ea ∙ z, eb ∙ i))) (λ (q, z, i). j.puts y ((x₁ y).1 (q, ec ∙ z, ed ∙ i))) k,
+)
+
+pub reached_one : (rules : List Rule) (w : Table) (s t e X : ℕ) (mask : NumberSet) → Exactly (Has mask) (λ y. (y ≡ X) × (X < 32)) → X < w.scope.symbols → entry_of w (X, s, t) ≡ e → Reached rules w s t e X mask
+reached_one rules w s t e X mask is l here = record {
+  first = (is X).1 (refl, omega (arith, w.scope.few_symbols));
+  every = λ y h. let q : y ≡ X = ((is y).0 h).0 in (subst (λ z. z < w.scope.symbols) (sym q) l, subst (λ z. entry_of w (z, s, t) ≡ e) (sym q) here, λ v d. subst (λ z. Derives rules z v) q d);
 }

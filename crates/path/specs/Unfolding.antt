@@ -10,7 +10,7 @@ use Rattle.language.specs.Derivations.{Derives}
 use Rattle.logic.specs.Paths.{word}
 use Rattle.logic.specs.Facts.{Triple, Guarded}
 use Rattle.least.specs.declared.fact.Fact.{Fact}
-use Rattle.least.specs.declared.scope.Scope.{Scope}
+use Rattle.least.specs.declared.table.Table.{Table}
 use Rattle.least.specs.Walks.{Leads}
 use Rattle.least.specs.Entries.{ground_of, triple, entry_of, Known}
 use Rattle.path.specs.declared.split.Split.{Split}
@@ -21,19 +21,19 @@ abbrev pub StepsBy : NumberSet → ℕ → ℕ → ℕ → Edge → Type 0
 StepsBy guard a s t e = (s ≡ e.from) × (e.action ≡ a) × (e.to ≡ t) × Has guard e.from
 
 -- the parts B and C through u have at least a step each, and together as many as the entry e says
-abbrev pub Sums : Scope → List ℕ → ℕ → ℕ → ℕ → ℕ → ℕ → ℕ → Type 0
-Sums c w B C s t e u = (1 < entry_of c w (B, s, u)) × (entry_of c w (B, s, u) < e) × (entry_of c w (C, u, t) ≡ e + 1 - entry_of c w (B, s, u))
+abbrev pub Sums : Table → ℕ → ℕ → ℕ → ℕ → ℕ → ℕ → Type 0
+Sums w B C s t e u = (1 < entry_of w (B, s, u)) × (entry_of w (B, s, u) < e) × (entry_of w (C, u, t) ≡ e + 1 - entry_of w (B, s, u))
 
 -- the table has the fact, with fewer than n steps
-abbrev pub Less : Scope → List ℕ → ℕ → Triple → ℕ → Type 0
-Less c w n q j = Known c w q j × (j < n)
+abbrev pub Less : Table → ℕ → Triple → ℕ → Type 0
+Less w n q j = Known w q j × (j < n)
 
 -- the split makes the fact f with n steps, from facts of fewer
-abbrev pub Splits : Scope → List Rule → List ℕ → Fact → ℕ → Split → Type 0
-Splits c rules w f n (Last a t) = (n ≡ 1) × (t ≡ f.to) × (e : Edge) × Leads (ground_of c) a f.from e × (e.to ≡ t) × Derives rules f.symbol (a ∷ [])
-Splits c rules w f n (Onward a t B) = (e : Edge) × Leads (ground_of c) a f.from e × (e.to ≡ t) × (j : ℕ) × (0 < j) × (n ≡ j + 1) × Known c w (B, t, f.to) j
+abbrev pub Splits : List Rule → Table → Fact → ℕ → Split → Type 0
+Splits rules w f n (Last a t) = (n ≡ 1) × (t ≡ f.to) × (e : Edge) × Leads (ground_of w.scope) a f.from e × (e.to ≡ t) × Derives rules f.symbol (a ∷ [])
+Splits rules w f n (Onward a t B) = (e : Edge) × Leads (ground_of w.scope) a f.from e × (e.to ≡ t) × (j : ℕ) × (0 < j) × (n ≡ j + 1) × Known w (B, t, f.to) j
     × ((v : Word) → Derives rules B v → Derives rules f.symbol (a ∷ v))
-Splits c rules w f n (Both B u C) = (i : ℕ) × (j : ℕ) × (0 < i) × (0 < j) × (n ≡ i + j) × Known c w (B, f.from, u) i × Known c w (C, u, f.to) j
+Splits rules w f n (Both B u C) = (i : ℕ) × (j : ℕ) × (0 < i) × (0 < j) × (n ≡ i + j) × Known w (B, f.from, u) i × Known w (C, u, f.to) j
     × ((v x : Word) → Derives rules B v → Derives rules C x → Derives rules f.symbol (v ++ x))
 
 -- the symbols of the facts derive the word, one after another
@@ -42,18 +42,18 @@ Spells rules [] w = w ≡ []
 Spells rules (f ∷ fs) w = (u : Word) × (v : Word) × (w ≡ u ++ v) × Derives rules f.symbol u × Spells rules fs v
 
 -- the facts follow one another from s to t, with n steps in all and at least one each
-abbrev pub Follows : Scope → List ℕ → ℕ → List Fact → ℕ → ℕ → Type 0
-Follows c w s [] t n = (s ≡ t) × (n ≡ 0)
-Follows c w s (f ∷ fs) t n = (f.from ≡ s) × (i : ℕ) × (j : ℕ) × (0 < i) × Known c w (triple f) i × Follows c w f.to fs t j × (n ≡ i + j)
+abbrev pub Follows : Table → ℕ → List Fact → ℕ → ℕ → Type 0
+Follows w s [] t n = (s ≡ t) × (n ≡ 0)
+Follows w s (f ∷ fs) t n = (f.from ≡ s) × (i : ℕ) × (j : ℕ) × (0 < i) × Known w (triple f) i × Follows w f.to fs t j × (n ≡ i + j)
 
 -- the path of the fact so far, and the facts that are still to be written out, the next one first
-pub record Doing (c : Scope) (rules : List Rule) (w : List ℕ) (fact : Fact) (count : ℕ) (old : List Step) (pending : List Fact) (steps : List Step) (written : ℕ) : Type 0 where
+pub record Doing (rules : List Rule) (w : Table) (fact : Fact) (count : ℕ) (old : List Step) (pending : List Fact) (steps : List Step) (written : ℕ) : Type 0 where
   pub at : ℕ
   pub left : ℕ
-  pub path : Guarded (ground_of c) fact.from (take written steps) at
-  pub next : Follows c w at pending fact.to left
+  pub path : Guarded (ground_of w.scope) fact.from (take written steps) at
+  pub next : Follows w at pending fact.to left
   pub sum : written + left ≡ count
-  pub gives : (x : Word) → Spells rules pending x → Derives rules fact.symbol (word (ground_of c).model (take written steps) ++ x)
+  pub gives : (x : Word) → Spells rules pending x → Derives rules fact.symbol (word (ground_of w.scope).model (take written steps) ++ x)
   pub others : drop count steps ≡ drop count old
 
 -- how many facts a split lays on the pile

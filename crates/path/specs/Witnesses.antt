@@ -9,7 +9,7 @@ use Rattle.model.specs.Sets.{Has}
 use Rattle.language.specs.declared.rule.Rule.{Rule}
 use Rattle.language.specs.Derivations.{Derives}
 use Rattle.logic.specs.Paths.{Good, SomeGood}
-use Rattle.least.specs.declared.scope.Scope.{Scope}
+use Rattle.least.specs.declared.table.Table.{Table}
 use Rattle.least.specs.Entries.{entry_of}
 
 -- the path from s is good for the guard, the goal and the words that symbol 0 derives
@@ -26,17 +26,17 @@ Shows m guard goal rules s limit before after (Ok (Some n)) = (n ≤ limit) × G
 Shows m guard goal rules s limit before after (Err refusal) = (refusal ≡ PathTooLong) × SomeGoodFor m guard goal rules s × ((p : List Step) → GoodFor m guard goal rules s p → limit < length p) × (after ≡ before)
 
 -- among the first n states, t is of the goal and has the least entry of symbol 0 from s, which is at most top
-pub record Nearest (c : Scope) (w : List ℕ) (goal : NumberSet) (s top n t : ℕ) : Type 0 where
-  pub there : t < c.states
+pub record Nearest (w : Table) (goal : NumberSet) (s top n t : ℕ) : Type 0 where
+  pub there : t < w.scope.states
   pub ends : Has goal t
-  pub some : 0 < entry_of c w (0, s, t)
-  pub low : entry_of c w (0, s, t) ≤ top
-  pub least : (u : ℕ) → u < n → Has goal u → 0 < entry_of c w (0, s, u) → entry_of c w (0, s, t) ≤ entry_of c w (0, s, u)
+  pub some : 0 < entry_of w (0, s, t)
+  pub low : entry_of w (0, s, t) ≤ top
+  pub least : (u : ℕ) → u < n → Has goal u → 0 < entry_of w (0, s, u) → entry_of w (0, s, t) ≤ entry_of w (0, s, u)
 
 -- among the first n states, none of the goal has an entry of at most top
-abbrev pub Far : Scope → List ℕ → NumberSet → ℕ → ℕ → ℕ → Type 0
-Far c w goal s top n = (u : ℕ) → u < n → Has goal u → 0 < entry_of c w (0, s, u) → top < entry_of c w (0, s, u)
+abbrev pub Far : Table → NumberSet → ℕ → ℕ → ℕ → Type 0
+Far w goal s top n = (u : ℕ) → u < n → Has goal u → 0 < entry_of w (0, s, u) → top < entry_of w (0, s, u)
 
-abbrev pub Best : Scope → List ℕ → NumberSet → ℕ → ℕ → ℕ → Option ℕ → Type 0
-Best c w goal s top n None = Far c w goal s top n
-Best c w goal s top n (Some t) = Nearest c w goal s top n t
+abbrev pub Best : Table → NumberSet → ℕ → ℕ → ℕ → Option ℕ → Type 0
+Best w goal s top n None = Far w goal s top n
+Best w goal s top n (Some t) = Nearest w goal s top n t

@@ -4,6 +4,7 @@
 mod reaching;
 mod search;
 mod shrinking;
+mod span;
 mod split;
 mod unfolding;
 

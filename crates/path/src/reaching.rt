@@ -1,114 +1,127 @@
 // Rules that keep the number of steps can go in circles: they are walked as a set of symbols.
-ghost use Rattle.std.specs.Prelude.{◌≡◌, ℕ, ◌*◌, ◌<◌, ◌≤◌, length, slice_index};
-ghost use Rattle.model.specs.Relations.{Among, Exactly, Joined};
+ghost use Rattle.std.specs.Prelude.{◌≡◌, ◌<◌};
+ghost use Rattle.model.specs.Relations.{Exactly, Joined};
 ghost use Rattle.model.specs.Sets.{Has};
-ghost use Rattle.language.specs.declared.rule.Rule.{Rule as RuleOf};
-ghost use Rattle.language.specs.Rules.{head_of, SymbolsBelow, RulesWithin};
+ghost use Rattle.language.specs.Rules.{head_of, SymbolsBelow, RulesWithin, BySome};
 ghost use Rattle.least.specs.Entries.{triple, entry_of, In, Sound};
 ghost use Rattle.path.specs.Reaching.{Keeps, Reached, ReachShut};
 
-use language::{Rule, UntilLanguage};
-use least::{Fact, Scope};
+use crate::span::Span;
+use language::{Fitting, Rule, UntilLanguage};
+use least::{Fact, Table};
 use model::NumberSet;
 
-// The symbol, if the entry at `empty` is that of no steps and the one at `rest` is this one.
-fn kept(work: &[u32], empty: usize, rest: usize, worth: u32, symbol: u8) -> NumberSet
-    requires { (empty < length work.now) × ((rest < length work.now) × (symbol < 32)) }
-    ensures { Exactly (Has result) (λ y. (y ≡ symbol) × (slice_index work.now empty ≡ 1) × (slice_index work.now rest ≡ worth)) }
+// The symbol, if the entry `empty` is that of no steps and the entry `rest` is this one.
+fn kept(symbol: u8, empty: u32, rest: u32, worth: u32) -> NumberSet
+    requires { symbol < 32 }
+    ensures { Exactly (Has result) (λ y. (y ≡ symbol) × (empty ≡ 1) × (rest ≡ worth)) }
 {
-    if work[empty] == 1 && work[rest] == worth {
-        return NumberSet::single(symbol);
-    }
-    NumberSet::empty()
-}
-
-// The symbol, if the entry at `rest` is this one.
-fn kept_same(work: &[u32], rest: usize, worth: u32, symbol: u8) -> NumberSet
-    requires { (rest < length work.now) × (symbol < 32) }
-    ensures { Exactly (Has result) (λ y. (y ≡ symbol) × (slice_index work.now rest ≡ worth)) }
-{
-    if work[rest] == worth {
+    if empty == 1 && rest == worth {
         return NumberSet::single(symbol);
     }
     NumberSet::empty()
 }
 
 // The symbols from whose facts the rule makes one of its head with the same entry.
-fn keeps(work: &[u32], scope: &Scope, rule: Rule, from: u8, to: u8, worth: u32) -> NumberSet
-    requires { (scope.now.symbols * scope.now.states * scope.now.states ≤ length work.now) × ((SymbolsBelow scope.now.symbols rule) × ((from < scope.now.states) × (to < scope.now.states))) }
-    ensures { Exactly (Has result) (Keeps scope.now work.now from to worth rule) }
+fn keeps(table: &Table, rule: Rule, span: Span) -> NumberSet
+    requires within { SymbolsBelow table.now.scope.symbols rule }
+    requires from { span.from < table.now.scope.states }
+    requires to { span.to < table.now.scope.states }
+    ensures { Exactly (Has result) (Keeps table.now span.from span.to span.worth rule) }
 {
+    let Span { from, to, worth } = span;
     match rule {
-        Rule::Same { body, .. } => kept_same(work, scope.cell(body, from, to), worth, body),
+        Rule::Same { body, .. } => {
+            let rest = table.entry(Fact {
+                symbol: body,
+                from,
+                to,
+            });
+            kept(body, 1, rest, worth)
+        }
         Rule::Pair { left, right, .. } => {
-            let none_left = scope.cell(left, from, from);
-            let all_right = scope.cell(right, from, to);
-            let none_right = scope.cell(right, to, to);
-            let all_left = scope.cell(left, from, to);
-            let second = kept(work, none_left, all_right, worth, right);
-            second.union(kept(work, none_right, all_left, worth, left))
+            let none_left = table.entry(Fact {
+                symbol: left,
+                from,
+                to: from,
+            });
+            let all_right = table.entry(Fact {
+                symbol: right,
+                from,
+                to,
+            });
+            let none_right = table.entry(Fact {
+                symbol: right,
+                from: to,
+                to,
+            });
+            let all_left = table.entry(Fact {
+                symbol: left,
+                from,
+                to,
+            });
+            let second = kept(right, none_left, all_right, worth);
+            second.union(kept(left, none_right, all_left, worth))
         }
         Rule::Empty { .. } | Rule::Letter { .. } | Rule::Lead { .. } => NumberSet::empty(),
     }
 }
 
 // The symbols that the rule brings, if its head is in the mask.
-fn reach_by(
-    work: &[u32],
-    scope: &Scope,
-    rule: Rule,
-    from: u8,
-    to: u8,
-    worth: u32,
-    mask: NumberSet,
-) -> NumberSet
-    requires { (scope.now.symbols * scope.now.states * scope.now.states ≤ length work.now) × ((SymbolsBelow scope.now.symbols rule) × ((from < scope.now.states) × (to < scope.now.states))) }
-    ensures { Exactly (Has result) (λ y. Has mask (head_of rule) × Keeps scope.now work.now from to worth rule y) }
+fn reach_by(table: &Table, rule: Rule, span: Span, mask: NumberSet) -> NumberSet
+    requires within { SymbolsBelow table.now.scope.symbols rule }
+    requires from { span.from < table.now.scope.states }
+    requires to { span.to < table.now.scope.states }
+    ensures { Exactly (Has result) (λ y. Has mask (head_of rule) × Keeps table.now span.from span.to span.worth rule y) }
 {
     if !mask.has(rule.head()) {
         return NumberSet::empty();
     }
-    keeps(work, scope, rule, from, to, worth)
+    keeps(table, rule, span)
 }
 
 // The mask with the symbols that the rules bring.
 fn reach_once<L: UntilLanguage>(
-    work: &[u32],
-    language: &L,
-    scope: &Scope,
-    from: u8,
-    to: u8,
-    worth: u32,
+    table: &Table,
+    language: &Fitting<L>,
+    span: Span,
     mask: NumberSet,
 ) -> NumberSet
-    requires { (scope.now.symbols * scope.now.states * scope.now.states ≤ length work.now) × ((RulesWithin scope.now.symbols (L.rules language.now)) × ((from < scope.now.states) × (to < scope.now.states))) }
-    ensures { Joined (Has mask) (Has result) (λ y. (x : RuleOf) × Among x (L.rules language.now) × (Has mask (head_of x) × Keeps scope.now work.now from to worth x y)) }
+    requires symbols { table.now.scope.symbols ≡ L.symbols language.now }
+    requires from { span.from < table.now.scope.states }
+    requires to { span.to < table.now.scope.states }
+    ensures joined { Joined (Has mask) (Has result) (BySome (λ x y. Has mask (head_of x) × Keeps table.now span.from span.to span.worth x y) (L.rules language.now)) }
+    ensures within { RulesWithin table.now.scope.symbols (L.rules language.now) }
 {
     let mut more = mask;
-    for place in 0..language.rule_count() {
-        if let Some(rule) = language.rule(place) {
-            more = more.union(reach_by(work, scope, rule, from, to, worth, mask));
-        }
+    for rule in language.rules() {
+        more = more.union(reach_by(table, rule, span, mask));
     }
     more
 }
 
 // All symbols that the rules bring from that of the fact, whose entry is `worth`.
 pub fn reach<L: UntilLanguage>(
-    work: &[u32],
-    language: &L,
-    scope: &Scope,
+    table: &Table,
+    language: &Fitting<L>,
     fact: Fact,
     worth: u32,
 ) -> NumberSet
-    requires entry { (scope.now.symbols * scope.now.states * scope.now.states ≤ length work.now) × ((RulesWithin scope.now.symbols (L.rules language.now)) × ((In scope.now (triple fact)) × (entry_of scope.now work.now (triple fact) ≡ worth))) }
-    requires sound { Sound scope.now (L.rules language.now) work.now }
-    ensures reached { Reached scope.now (L.rules language.now) work.now fact.from fact.to worth fact.symbol result }
-    ensures shut { ReachShut scope.now (L.rules language.now) work.now fact.from fact.to worth result }
+    requires symbols { table.now.scope.symbols ≡ L.symbols language.now }
+    requires there { In table.now.scope (triple fact) }
+    requires entry { entry_of table.now (triple fact) ≡ worth }
+    requires sound { Sound (L.rules language.now) table.now }
+    ensures reached { Reached (L.rules language.now) table.now fact.from fact.to worth fact.symbol result }
+    ensures shut { ReachShut (L.rules language.now) table.now fact.from fact.to worth result }
 {
+    let span = Span {
+        from: fact.from,
+        to: fact.to,
+        worth,
+    };
     let mut mask = NumberSet::single(fact.symbol);
     loop {
-        let more = reach_once(work, language, scope, fact.from, fact.to, worth, mask);
+        let more = reach_once(table, language, span, mask);
         if more.count() == mask.count() {
             return mask;
         }

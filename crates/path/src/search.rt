@@ -1,104 +1,102 @@
 // The search for a shortest path into the goal.
-ghost use Rattle.std.specs.Prelude.{◌≡◌, ℕ, ◌+◌, ◌*◌, ◌<◌, ◌≤◌, min, true, length, MatchResult, slice_index};
+ghost use Rattle.std.specs.Prelude.{◌≡◌, ℕ, ◌+◌, ◌*◌, ◌<◌, ◌≤◌, ◌==◌, ◌&&◌, min, true, not, nat_lt, length, filter, count_by, IfSome, MatchResult};
+ghost use Rattle.std.specs.List.{reduce};
 ghost use Rattle.model.specs.Relations.{Exactly};
 ghost use Rattle.model.specs.Sets.{Has};
 ghost use Rattle.model.specs.declared.refusal.Refusal.TheVariants.{PathTooLong};
-ghost use Rattle.language.specs.Rules.{RulesWithin};
-ghost use Rattle.least.specs.Entries.{Room, Sound, Closed};
+ghost use Rattle.least.specs.Entries.{In, Sound, Closed};
 ghost use Rattle.least.specs.Lowering.{weight};
 ghost use Rattle.path.specs.Witnesses.{SomeGoodFor, Shows, Nearest, Far, Best};
 
 use crate::unfolding::unfold;
-use language::UntilLanguage;
-use least::{Band, Fact, Scope, clear, settle, start, sweep};
+use language::{Fitting, UntilLanguage};
+use least::{Band, Fact, Scope, Table};
 use model::{Model, NumberSet, Refusal, Step};
 
+// Where a path is to start, and where it may end.
+#[derive(Clone, Copy, PartialEq, Eq, Debug)]
+pub struct Aim {
+    pub state: u8,
+    pub goal: NumberSet,
+}
+
 // The better of the best so far and one state more.
-fn closer(
-    work: &[u32],
-    scope: &Scope,
-    top: u32,
-    goal: NumberSet,
-    state: u8,
-    to: u8,
-    best: Option<u8>,
-) -> Option<u8>
-    requires { (scope.now.symbols * scope.now.states * scope.now.states ≤ length work.now) × ((0 < scope.now.symbols) × ((state < scope.now.states) × ((to < scope.now.states) × (Best scope.now work.now goal state top to best)))) }
-    ensures { Best scope.now work.now goal state top (to + 1) result }
+fn closer(table: &Table, top: u32, aim: Aim, to: u8, best: Option<u8>) -> Option<u8>
+    requires to { In table.now.scope (0, aim.state, to) }
+    requires best { Best table.now aim.goal aim.state top to best }
+    ensures { Best table.now aim.goal aim.state top (to + 1) result }
 {
-    if !goal.has(to) {
+    if !aim.goal.has(to) {
         return best;
     }
-    let worth = work[scope.cell(0, state, to)];
+    let worth = table.entry(Fact {
+        symbol: 0,
+        from: aim.state,
+        to,
+    });
     if worth == 0 || worth > top {
         return best;
     }
-    match best {
-        None => Some(to),
-        Some(old) => {
-            if worth < work[scope.cell(0, state, old)] {
-                return Some(to);
-            }
-            Some(old)
-        }
+    let Some(old) = best else {
+        return Some(to);
+    };
+    let least = table.entry(Fact {
+        symbol: 0,
+        from: aim.state,
+        to: old,
+    });
+    if worth < least {
+        return Some(to);
     }
+    Some(old)
 }
 
 // The state of the goal with the least entry of symbol 0 from the state, if one has an entry of at most the top.
-fn nearest(work: &[u32], scope: &Scope, top: u32, goal: NumberSet, state: u8) -> Option<u8>
-    requires { (scope.now.symbols * scope.now.states * scope.now.states ≤ length work.now) × ((0 < scope.now.symbols) × (state < scope.now.states)) }
-    ensures { Best scope.now work.now goal state top scope.now.states result }
+fn nearest(table: &Table, top: u32, aim: Aim) -> Option<u8>
+    requires { In table.now.scope (0, aim.state, aim.state) }
+    ensures { Best table.now aim.goal aim.state top table.now.scope.states result }
 {
     let mut best = None;
-    for to in 0..scope.states() {
-        best = closer(work, scope, top, goal, state, to, best);
+    for to in 0..table.states() {
+        best = closer(table, top, aim, to, best);
     }
     best
 }
 
-// The least entry above the level that is at most the top, or one more than the top.
-fn next_level(work: &[u32], top: u32, level: u32) -> u32
-    requires { (level < top) × (top ≤ 4097) }
-    ensures above { (level < result) × (result ≤ top + 1) }
-    ensures least { (k : ℕ) → k < length work.now → level < slice_index work.now k → slice_index work.now k ≤ top → result ≤ slice_index work.now k }
+// The least entry above the level that is at most the top, if there is one.
+fn next_level(entries: &[u32], top: u32, level: u32) -> Option<u32>
+    ensures above { IfSome result (λ next. (level < next) × (next ≤ top)) }
+    ensures least { result ≡ reduce min (filter (λ k. nat_lt level k && not (nat_lt top k)) entries.now) }
 {
-    let mut next = top + 1;
-    for known in work {
-        if *known > level && *known < next {
-            next = *known;
-        }
-    }
-    next
+    entries
+        .iter()
+        .copied()
+        .filter(|known| level < *known && *known <= top)
+        .min()
 }
 
 // How many entries are at the level.
-fn count_at(work: &[u32], level: u32) -> usize
-    ensures { result ≤ length work.now }
+fn count_at(entries: &[u32], level: u32) -> usize
+    ensures { result ≡ count_by (λ k. k == level) entries.now }
 {
-    let mut count = 0;
-    for known in work {
-        if *known == level {
-            count += 1;
-        }
-    }
-    count
+    entries.iter().filter(|known| **known == level).count()
 }
 
 // Lowers by all rules with the facts whose entry is the level; says whether there are more of those then.
 // Where they are many, sweeping all lower facts as first parts is quicker than taking up each as a second part.
 fn sweep_level<L: UntilLanguage>(
-    work: &mut [u32],
-    language: &L,
-    scope: &Scope,
-    top: u32,
+    table: &mut Table,
+    language: &Fitting<L>,
+    top: u16,
     level: u32,
 ) -> bool
-    requires { (Room scope.now top (length work.old)) × (RulesWithin scope.now.symbols (L.rules language.now)) }
-    ensures sound { Sound scope.now (L.rules language.now) work.old → Sound scope.now (L.rules language.now) work.new }
-    ensures lighter { weight work.new ≤ weight work.old }
-    ensures more { result ≡ true → weight work.new < weight work.old }
+    requires { table.old.scope.symbols ≡ L.symbols language.now }
+    ensures same { table.new.scope ≡ table.old.scope }
+    ensures sound { Sound (L.rules language.now) table.old → Sound (L.rules language.now) table.new }
+    ensures lighter { weight table.new.entries.now ≤ weight table.old.entries.now }
+    ensures more { result ≡ true → weight table.new.entries.now < weight table.old.entries.now }
 {
-    let before = count_at(work, level);
+    let before = count_at(table.entries(), level);
     let band = if before > 512 {
         Band {
             low: 1,
@@ -112,31 +110,30 @@ fn sweep_level<L: UntilLanguage>(
             both: true,
         }
     };
-    let fell = sweep(work, language, scope, top, band);
-    fell && count_at(work, level) > before
+    let fell = table.sweep(language, top, band);
+    fell && count_at(table.entries(), level) > before
 }
 
 // Lowers in the order of the entries, up to the first level at which a state of the goal has an entry, or the top.
-fn grow<L: UntilLanguage>(
-    work: &mut [u32],
-    language: &L,
-    scope: &Scope,
-    top: u32,
-    goal: NumberSet,
-    state: u8,
-) -> u32
-    requires { (Room scope.now top (length work.old)) × ((RulesWithin scope.now.symbols (L.rules language.now)) × ((0 < scope.now.symbols) × (state < scope.now.states))) }
-    ensures sound { Sound scope.now (L.rules language.now) work.old → Sound scope.now (L.rules language.now) work.new }
-    ensures level { (result ≤ top) × ((result < top → (t : ℕ) × Nearest scope.now work.new goal state result scope.now.states t)) }
+fn grow<L: UntilLanguage>(table: &mut Table, language: &Fitting<L>, top: u16, aim: Aim) -> u16
+    requires symbols { table.old.scope.symbols ≡ L.symbols language.now }
+    requires state { In table.old.scope (0, aim.state, aim.state) }
+    ensures same { table.new.scope ≡ table.old.scope }
+    ensures sound { Sound (L.rules language.now) table.old → Sound (L.rules language.now) table.new }
+    ensures low { result ≤ top }
+    ensures level { result < top → (t : ℕ) × Nearest table.new aim.goal aim.state result table.new.scope.states t }
 {
-    let _ = start(work, language, scope, top);
+    let _ = table.start(language, top);
     let mut level = 1u32;
-    while level < top {
-        if let Some(_) = nearest(work, scope, level, goal, state) {
-            return level;
+    while level < top as u32 {
+        if nearest(table, level, aim).is_some() {
+            return level as u16;
         }
-        if !sweep_level(work, language, scope, top, level) {
-            level = next_level(work, top, level);
+        if !sweep_level(table, language, top, level) {
+            let Some(next) = next_level(table.entries(), top as u32, level) else {
+                return top;
+            };
+            level = next;
         }
     }
     top
@@ -144,48 +141,48 @@ fn grow<L: UntilLanguage>(
 
 // Lowers until no rule gives less up to the top, and then finds the nearest state of the goal.
 fn settled<L: UntilLanguage>(
-    work: &mut [u32],
-    language: &L,
-    scope: &Scope,
-    top: u32,
-    goal: NumberSet,
-    state: u8,
+    table: &mut Table,
+    language: &Fitting<L>,
+    top: u16,
+    aim: Aim,
 ) -> Option<u8>
-    requires { (Room scope.now top (length work.old)) × ((RulesWithin scope.now.symbols (L.rules language.now)) × ((0 < scope.now.symbols) × (state < scope.now.states))) }
-    ensures sound { Sound scope.now (L.rules language.now) work.old → Sound scope.now (L.rules language.now) work.new }
-    ensures closed { Closed scope.now (L.rules language.now) top work.new }
-    ensures best { Best scope.now work.new goal state top scope.now.states result }
+    requires symbols { table.old.scope.symbols ≡ L.symbols language.now }
+    requires state { In table.old.scope (0, aim.state, aim.state) }
+    ensures same { table.new.scope ≡ table.old.scope }
+    ensures sound { Sound (L.rules language.now) table.old → Sound (L.rules language.now) table.new }
+    ensures closed { Closed (L.rules language.now) top table.new }
+    ensures best { Best table.new aim.goal aim.state top table.new.scope.states result }
 {
-    settle(work, language, scope, top);
-    nearest(work, scope, top, goal, state)
+    table.settle(language, top);
+    nearest(table, top as u32, aim)
 }
 
 // The state of the goal with the fewest steps from the state, if that is fewer than the top; the table is closed as far as that needs.
 fn sought<L: UntilLanguage>(
-    work: &mut [u32],
-    language: &L,
-    scope: &Scope,
-    top: u32,
-    goal: NumberSet,
-    state: u8,
+    table: &mut Table,
+    language: &Fitting<L>,
+    top: u16,
+    aim: Aim,
 ) -> Result<u8, Refusal>
-    requires { (Room scope.now top (length work.old)) × ((RulesWithin scope.now.symbols (L.rules language.now)) × ((0 < scope.now.symbols) × (state < scope.now.states))) }
-    ensures sound { Sound scope.now (L.rules language.now) work.new }
-    ensures found { MatchResult result (λ to. (level : ℕ) × (level ≤ top) × Closed scope.now (L.rules language.now) level work.new × Nearest scope.now work.new goal state level scope.now.states to) (λ refusal. (refusal ≡ PathTooLong) × Closed scope.now (L.rules language.now) top work.new × Far scope.now work.new goal state top scope.now.states) }
+    requires symbols { table.old.scope.symbols ≡ L.symbols language.now }
+    requires state { In table.old.scope (0, aim.state, aim.state) }
+    requires sound { Sound (L.rules language.now) table.old }
+    ensures same { table.new.scope ≡ table.old.scope }
+    ensures sound { Sound (L.rules language.now) table.new }
+    ensures found { MatchResult result (λ to. (level : ℕ) × (level ≤ top) × Closed (L.rules language.now) level table.new × Nearest table.new aim.goal aim.state level table.new.scope.states to) (λ refusal. (refusal ≡ PathTooLong) × Closed (L.rules language.now) top table.new × Far table.new aim.goal aim.state top table.new.scope.states) }
 {
-    clear(work, scope.cells());
-    let level = grow(work, language, scope, top, goal, state);
-    if let Some(to) = settled(work, language, scope, level, goal, state) {
+    let level = grow(table, language, top, aim);
+    if let Some(to) = settled(table, language, level, aim) {
         return Ok(to);
     }
-    settled(work, language, scope, top, goal, state).ok_or(Refusal::PathTooLong)
+    settled(table, language, top, aim).ok_or(Refusal::PathTooLong)
 }
 
 // A shortest path from the state into the goal that is guarded before its end and whose word the language has, in the first places of the step list:
 // none, or how many steps it has; refused if only longer ones than fit are there.
 // The sheet calls it, with the set of all states that have such a path, and sees to it that language, state and lent memory are as asked.
 pub fn shortest<L: UntilLanguage>(
-    language: &L,
+    language: &Fitting<L>,
     model: &Model,
     guard: NumberSet,
     goal: NumberSet,
@@ -195,30 +192,25 @@ pub fn shortest<L: UntilLanguage>(
     waiting: &mut [Fact],
     steps: &mut [Step],
 ) -> Result<Option<usize>, Refusal>
-    requires sizes { (L.symbols language.now ≤ 16) × ((length (L.rules language.now) ≤ 128) × (state < model.now.states)) }
-    requires lent { (L.symbols language.now * model.now.states * model.now.states ≤ length work.old) × (length steps.old ≤ length waiting.old) }
+    requires state { state < model.now.states }
+    requires work { L.symbols language.now * model.now.states * model.now.states ≤ length work.old }
+    requires waiting { length steps.old ≤ length waiting.old }
     requires marks { Exactly (Has satisfying) (λ s. (s < model.now.states) × SomeGoodFor model.now guard goal (L.rules language.now) s) }
     ensures { Shows model.now guard goal (L.rules language.now) state (min (length steps.old) 4096) steps.old steps.new result }
 {
     if !satisfying.has(state) {
         return Ok(None);
     }
-    let scope = Scope::new(model, guard, language.symbol_count() as u8);
-    let top = steps.len().min(4096) as u32 + 1;
-    let to = sought(work, language, &scope, top, goal, state)?;
-    let count = work[scope.cell(0, state, to)] as usize - 1;
-    unfold(
-        work,
-        language,
-        &scope,
-        waiting,
-        steps,
-        Fact {
-            symbol: 0,
-            from: state,
-            to,
-        },
-        count,
-    );
+    let scope = Scope::new(model, guard, language.symbols());
+    let mut table = Table::empty(scope, work);
+    let top = steps.len().min(4096) as u16 + 1;
+    let to = sought(&mut table, language, top, Aim { state, goal })?;
+    let fact = Fact {
+        symbol: 0,
+        from: state,
+        to,
+    };
+    let count = table.entry(fact) as usize - 1;
+    unfold(&table, language, waiting, steps, fact, count);
     Ok(Some(count))
 }

@@ -1,5 +1,5 @@
 // A way to a fact from facts with fewer steps.
-ghost use Rattle.std.specs.Prelude.{◌≡◌, ℕ, ◌+◌, ◌-◌, ◌*◌, ◌<◌, ◌≤◌, List, length, Decides, MatchOption, ◌≢◌};
+ghost use Rattle.std.specs.Prelude.{◌≡◌, ℕ, ◌+◌, ◌-◌, ◌<◌, List, Decides, MatchOption, ◌≢◌};
 ghost use Rattle.model.specs.declared.edge.Edge.{Edge as EdgeOf};
 ghost use Rattle.model.specs.Models.{HasEdge};
 ghost use Rattle.model.specs.Relations.{Among};
@@ -9,24 +9,25 @@ ghost use Rattle.least.specs.Walks.{GivesIn};
 ghost use Rattle.least.specs.Entries.{ground_of, entry_of, In, Sound};
 ghost use Rattle.path.specs.Unfolding.{StepsBy, Sums, Less, Splits};
 
+use crate::span::Span;
 use crate::split::Split;
 use language::Rule;
-use least::Scope;
+use least::{Fact, Table};
 use model::Edge;
 
 // Whether the edge leads from one state to the other with the action, and the guard holds at the first.
-fn steps_by(scope: &Scope, edge: Edge, action: u8, from: u8, to: u8) -> bool
-    ensures { Decides result (StepsBy scope.now.guard action from to edge) }
+fn steps_by(table: &Table, edge: Edge, action: u8, from: u8, to: u8) -> bool
+    ensures { Decides result (StepsBy table.now.scope.guard action from to edge) }
 {
-    edge.from == from && edge.action == action && edge.to == to && scope.guard().has(edge.from)
+    edge.from == from && edge.action == action && edge.to == to && table.guard().has(edge.from)
 }
 
 // Whether some edge does.
-fn steps_to(scope: &Scope, action: u8, from: u8, to: u8) -> bool
-    ensures { Decides result ((e : EdgeOf) × HasEdge scope.now.model.now e × StepsBy scope.now.guard action from to e) }
+fn steps_to(table: &Table, action: u8, from: u8, to: u8) -> bool
+    ensures { Decides result ((e : EdgeOf) × HasEdge table.now.scope.model.now e × StepsBy table.now.scope.guard action from to e) }
 {
-    for edge in scope.edges() {
-        if steps_by(scope, *edge, action, from, to) {
+    for edge in table.edges() {
+        if steps_by(table, *edge, action, from, to) {
             return true;
         }
     }
@@ -34,38 +35,28 @@ fn steps_to(scope: &Scope, action: u8, from: u8, to: u8) -> bool
 }
 
 // Whether the edge leads with the action to a state from which the rest has one step less.
-fn steps_on_by(
-    work: &[u32],
-    scope: &Scope,
-    edge: Edge,
-    action: u8,
-    rest: u8,
-    from: u8,
-    to: u8,
-    worth: u32,
-) -> bool
-    requires { (scope.now.symbols * scope.now.states * scope.now.states ≤ length work.now) × ((HasEdge scope.now.model.now edge) × ((In scope.now (rest, from, to)) × (1 < worth))) }
-    ensures { Decides result (StepsBy scope.now.guard action from edge.to edge × (entry_of scope.now work.now (rest, edge.to, to) ≡ worth - 1)) }
+fn steps_on_by(table: &Table, edge: Edge, action: u8, rest: u8, span: Span) -> bool
+    requires edge { HasEdge table.now.scope.model.now edge }
+    requires rest { In table.now.scope (rest, span.from, span.to) }
+    requires worth { 1 < span.worth }
+    ensures { Decides result (StepsBy table.now.scope.guard action span.from edge.to edge × (entry_of table.now (rest, edge.to, span.to) ≡ span.worth - 1)) }
 {
-    let part = work[scope.cell(rest, edge.to, to)];
-    steps_by(scope, edge, action, from, edge.to) && part == worth - 1
+    let part = table.entry(Fact {
+        symbol: rest,
+        from: edge.to,
+        to: span.to,
+    });
+    steps_by(table, edge, action, span.from, edge.to) && part == span.worth - 1
 }
 
 // A state to which a step with the action leads, and from which the rest has one step less.
-fn steps_on(
-    work: &[u32],
-    scope: &Scope,
-    action: u8,
-    rest: u8,
-    from: u8,
-    to: u8,
-    worth: u32,
-) -> Option<u8>
-    requires { (scope.now.symbols * scope.now.states * scope.now.states ≤ length work.now) × ((In scope.now (rest, from, to)) × (1 < worth)) }
-    ensures { MatchOption result ((e : EdgeOf) → HasEdge scope.now.model.now e → StepsBy scope.now.guard action from e.to e → entry_of scope.now work.now (rest, e.to, to) ≢ worth - 1) (λ via. (e : EdgeOf) × HasEdge scope.now.model.now e × StepsBy scope.now.guard action from via e × (entry_of scope.now work.now (rest, via, to) ≡ worth - 1)) }
+fn steps_on(table: &Table, action: u8, rest: u8, span: Span) -> Option<u8>
+    requires rest { In table.now.scope (rest, span.from, span.to) }
+    requires worth { 1 < span.worth }
+    ensures { MatchOption result ((e : EdgeOf) → HasEdge table.now.scope.model.now e → StepsBy table.now.scope.guard action span.from e.to e → entry_of table.now (rest, e.to, span.to) ≢ span.worth - 1) (λ via. (e : EdgeOf) × HasEdge table.now.scope.model.now e × StepsBy table.now.scope.guard action span.from via e × (entry_of table.now (rest, via, span.to) ≡ span.worth - 1)) }
 {
-    for edge in scope.edges() {
-        if steps_on_by(work, scope, *edge, action, rest, from, to, worth) {
+    for edge in table.edges() {
+        if steps_on_by(table, *edge, action, rest, span) {
             return Some(edge.to);
         }
     }
@@ -73,93 +64,82 @@ fn steps_on(
 }
 
 // Whether the two parts through the state have at least a step each, and together as many as the entry says.
-fn sums_by(
-    work: &[u32],
-    scope: &Scope,
-    left: u8,
-    right: u8,
-    from: u8,
-    to: u8,
-    worth: u32,
-    through: u8,
-) -> bool
-    requires { (scope.now.symbols * scope.now.states * scope.now.states ≤ length work.now) × ((In scope.now (left, from, to)) × ((right < scope.now.symbols) × ((worth < 5000) × (through < scope.now.states)))) }
-    ensures { Decides result (Sums scope.now work.now left right from to worth through) }
+fn sums_by(table: &Table, left: u8, right: u8, span: Span, through: u8) -> bool
+    requires left { In table.now.scope (left, span.from, span.to) }
+    requires right { right < table.now.scope.symbols }
+    requires worth { span.worth < 5000 }
+    requires through { through < table.now.scope.states }
+    ensures { Decides result (Sums table.now left right span.from span.to span.worth through) }
 {
-    let first = work[scope.cell(left, from, through)];
-    let second = work[scope.cell(right, through, to)];
-    first > 1 && first < worth && second == worth + 1 - first
+    let first = table.entry(Fact {
+        symbol: left,
+        from: span.from,
+        to: through,
+    });
+    let second = table.entry(Fact {
+        symbol: right,
+        from: through,
+        to: span.to,
+    });
+    first > 1 && first < span.worth && second == span.worth + 1 - first
 }
 
 // A state through which they do.
-fn sums_through(
-    work: &[u32],
-    scope: &Scope,
-    left: u8,
-    right: u8,
-    from: u8,
-    to: u8,
-    worth: u32,
-) -> Option<u8>
-    requires { (scope.now.symbols * scope.now.states * scope.now.states ≤ length work.now) × ((In scope.now (left, from, to)) × ((right < scope.now.symbols) × (worth < 5000))) }
-    ensures { MatchOption result ((u : ℕ) → u < scope.now.states → Sums scope.now work.now left right from to worth u → ⊥) (λ u. (u < scope.now.states) × Sums scope.now work.now left right from to worth u) }
+fn sums_through(table: &Table, left: u8, right: u8, span: Span) -> Option<u8>
+    requires left { In table.now.scope (left, span.from, span.to) }
+    requires right { right < table.now.scope.symbols }
+    requires worth { span.worth < 5000 }
+    ensures { MatchOption result ((u : ℕ) → u < table.now.scope.states → Sums table.now left right span.from span.to span.worth u → ⊥) (λ u. (u < table.now.scope.states) × Sums table.now left right span.from span.to span.worth u) }
 {
-    for through in 0..scope.states() {
-        if sums_by(work, scope, left, right, from, to, worth, through) {
+    for through in 0..table.states() {
+        if sums_by(table, left, right, span, through) {
             return Some(through);
         }
     }
     None
 }
 
-// A way by the rule to the fact of its head from facts with fewer steps, where the fact's entry is `worth`.
-pub fn shrink(
-    work: &[u32],
-    scope: &Scope,
-    rule: Rule,
-    from: u8,
-    to: u8,
-    worth: u32,
-) -> Option<Split>
-    requires sizes { (scope.now.symbols * scope.now.states * scope.now.states ≤ length work.now) × (SymbolsBelow scope.now.symbols rule) }
-    requires inside { (from < scope.now.states) × ((to < scope.now.states) × ((1 < worth) × (worth < 5000))) }
-    ensures { MatchOption result ((n : ℕ) → worth ≡ n + 1 → GivesIn (ground_of scope.now) rule (Less scope.now work.now n) (Less scope.now work.now n) (head_of rule, from, to) n → ⊥) (λ found. (rules : List RuleOf) (n : ℕ) → Among rule rules → Sound scope.now rules work.now → worth ≡ n + 1 → Splits scope.now rules work.now (record { symbol = head_of rule; from = from; to = to }) n found) }
+// A way by the rule to the fact of its head between the two states from facts with fewer steps.
+pub fn shrink(table: &Table, rule: Rule, span: Span) -> Option<Split>
+    requires within { SymbolsBelow table.now.scope.symbols rule }
+    requires from { span.from < table.now.scope.states }
+    requires to { span.to < table.now.scope.states }
+    requires some { 1 < span.worth }
+    requires worth { span.worth < 5000 }
+    ensures { MatchOption result ((n : ℕ) → span.worth ≡ n + 1 → GivesIn (ground_of table.now.scope) rule (Less table.now n) (Less table.now n) (head_of rule, span.from, span.to) n → ⊥) (λ found. (rules : List RuleOf) (n : ℕ) → Among rule rules → Sound rules table.now → span.worth ≡ n + 1 → Splits rules table.now (record { symbol = head_of rule; from = span.from; to = span.to }) n found) }
 {
     match rule {
         Rule::Letter { action, .. } => {
-            if worth != 2 {
+            if span.worth != 2 || !steps_to(table, action, span.from, span.to) {
                 return None;
             }
-            if steps_to(scope, action, from, to) {
-                return Some(Split::Last { action, to });
-            }
-            None
+            Some(Split::Last {
+                action,
+                to: span.to,
+            })
         }
-        Rule::Lead { action, rest, .. } => match steps_on(
-            work, scope, action, rest, from, to, worth,
-        ) {
-            Some(via) => {
-                if worth == 2 {
-                    return Some(Split::Last { action, to });
-                }
-                Some(Split::Onward {
+        Rule::Lead { action, rest, .. } => {
+            let via = steps_on(table, action, rest, span)?;
+            if span.worth == 2 {
+                return Some(Split::Last {
                     action,
-                    to: via,
-                    rest,
-                })
+                    to: span.to,
+                });
             }
-            None => None,
-        },
-        Rule::Pair { left, right, .. } => match sums_through(
-            work, scope, left, right, from, to, worth,
-        ) {
-            Some(through) => Some(Split::Both {
+            Some(Split::Onward {
+                action,
+                to: via,
+                rest,
+            })
+        }
+        Rule::Pair { left, right, .. } => {
+            let through = sums_through(table, left, right, span)?;
+            Some(Split::Both {
                 left,
                 through,
                 right,
-            }),
-            None => None,
-        },
+            })
+        }
         Rule::Empty { .. } | Rule::Same { .. } => None,
     }
 }

@@ -1,6 +1,6 @@
 // Lowering by all rules, until nothing falls.
 ghost use Rattle.std.specs.Prelude.{◌≡◌, ℕ, ◌*◌, ◌<◌, ◌≤◌, length, slice_index};
-ghost use Rattle.language.specs.Rules.{SymbolsBelow, RulesWithin};
+ghost use Rattle.language.specs.Rules.{SymbolsBelow};
 ghost use Rattle.least.specs.Entries.{triple, In, Sound, Closed};
 ghost use Rattle.least.specs.Lowering.{Always, Run, ShutIn, ShutRule, ShutAll, ShutStarts};
 
@@ -8,7 +8,7 @@ use crate::band::Band;
 use crate::fact::Fact;
 use crate::table::Table;
 use crate::table::leading::Leading;
-use language::{Rule, UntilLanguage};
+use language::{Fitting, Rule, UntilLanguage};
 
 impl Table<'_> {
     // Lowers by the rule with the fact as a part, if its entry lies in the band.
@@ -74,36 +74,32 @@ impl Table<'_> {
     }
 
     // Lowers by all rules with the facts that have an entry in the band.
-    pub fn sweep<L: UntilLanguage>(&mut self, language: &L, top: u16, band: Band) -> bool
-        requires { RulesWithin self.old.scope.symbols (L.rules language.now) }
+    pub fn sweep<L: UntilLanguage>(&mut self, language: &Fitting<L>, top: u16, band: Band) -> bool
+        requires { self.old.scope.symbols ≡ L.symbols language.now }
         ensures { Run (L.rules language.now) (ShutAll (L.rules language.now) top band.low band.high) self.old self.new result }
     {
         let mut fell = false;
-        for place in 0..language.rule_count() {
-            if let Some(rule) = language.rule(place) {
-                fell |= self.sweep_rule(top, band, rule);
-            }
+        for rule in language.rules() {
+            fell |= self.sweep_rule(top, band, rule);
         }
         fell
     }
 
     // Lowers by all rules that have no part.
-    pub fn start<L: UntilLanguage>(&mut self, language: &L, top: u16) -> bool
-        requires { RulesWithin self.old.scope.symbols (L.rules language.now) }
+    pub fn start<L: UntilLanguage>(&mut self, language: &Fitting<L>, top: u16) -> bool
+        requires { self.old.scope.symbols ≡ L.symbols language.now }
         ensures { Run (L.rules language.now) (ShutStarts (L.rules language.now) top) self.old self.new result }
     {
         let mut fell = false;
-        for place in 0..language.rule_count() {
-            if let Some(rule) = language.rule(place) {
-                fell |= self.start_rule(top, rule);
-            }
+        for rule in language.rules() {
+            fell |= self.start_rule(top, rule);
         }
         fell
     }
 
     // Lowers until no rule gives less, as far as entries up to the top go.
-    pub fn settle<L: UntilLanguage>(&mut self, language: &L, top: u16)
-        requires { RulesWithin self.old.scope.symbols (L.rules language.now) }
+    pub fn settle<L: UntilLanguage>(&mut self, language: &Fitting<L>, top: u16)
+        requires { self.old.scope.symbols ≡ L.symbols language.now }
         ensures same { self.new.scope ≡ self.old.scope }
         ensures sound { Sound (L.rules language.now) self.old → Sound (L.rules language.now) self.new }
         ensures closed { Closed (L.rules language.now) top self.new }

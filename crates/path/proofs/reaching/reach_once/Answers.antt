@@ -1,21 +1,26 @@
-use Rattle.std.proofs.Common.{sym, ◌∙◌, arith}
-use Rattle.model.specs.declared.number_set.NumberSet.{NumberSet}
+use Rattle.std.proofs.Common.{sym, ◌∙◌, subst}
+use Rattle.model.specs.Relations.{Joined}
 use Rattle.model.specs.Sets.{Has}
-use Rattle.model.proofs.Joins.{joined_none, joined_more, joined_same, joined_from, joined_exactly, among_more}
-use Rattle.language.specs.Rules.{head_of}
+use Rattle.model.proofs.Joins.{joined_exactly}
+use Rattle.language.specs.Rules.{head_of, SymbolsBelow, RulesWithin, BySome}
+use Rattle.language.proofs.Coming.{coming_among, joined_next}
+use Rattle.least.proofs.Runs.{all_came}
 use Rattle.path.specs.Reaching.{Keeps}
-use Rattle.path.proofs.Joining.{among_all}
-use Rattle.path.proofs.reaching.reach_once.Goals.{in-Some, in_default}
 use Rattle.path.proofs.reaching.reach_once.Goals as goal
 
-pub loop-place-init : goal.loop-place-init
-loop-place-init g c = joined_none _
+pub reach_by-requires-clause-within : goal.reach_by-requires-clause-within
+reach_by-requires-clause-within g c =
+    let given = c.rules-rule-items.ensures in
+    let among = coming_among _ (c.into_iter-rule-iterator.ensures.into_iter_gives ∙ given.rules) c.loop-rule.yielded_by c.in-Some.ensures.steps in
+    subst (λ k. SymbolsBelow k c.in-Some.rule) (sym c.requires.symbols) (given.named c.in-Some.rule among)
 
-pub loop-place-preserved : goal.loop-place-preserved
-loop-place-preserved g c = joined_more _ _ c.loop-place.invariant (elim c.match-rule.branch [
-  | in-Some w ↦ joined_from (λ (t : NumberSet). Has t) (sym w.more-is) (among_more (g.L.UntilLanguage.rules c.args.language.now) c.loop-place.place w.in-Some.rule (λ x y. Has c.args.mask (head_of x) × Keeps c.args.scope.now c.args.work.now c.args.from c.args.to c.args.worth x y) (sym c.rule.ensures ∙ w.in-Some.is) (joined_exactly w.reach_by.ensures w.union-more.ensures))
-  | in_default w ↦ joined_from (λ (t : NumberSet). Has t) (sym w.more-is) (joined_same _ (λ p m. w.in_default.not-Some m.0 (c.rule.ensures ∙ m.1)))
-])
+pub loop-rule-preserved : goal.loop-rule-preserved
+loop-rule-preserved g c = joined_next _ _ _ c.loop-rule.invariant (joined_exactly c.reach_by.ensures c.union-more.ensures)
 
-pub returns : goal.returns
-returns g c = among_all (g.L.UntilLanguage.rules c.args.language.now) c.loop-place.place (λ x y. Has c.args.mask (head_of x) × Keeps c.args.scope.now c.args.work.now c.args.from c.args.to c.args.worth x y) (omega (arith, c.rule_count-place-end.ensures, c.loop-place-test.false)) c.loop-place.invariant
+pub returns-clause-joined : goal.returns-clause-joined
+returns-clause-joined g c =
+    let all = all_came _ (c.into_iter-rule-iterator.ensures.into_iter_gives ∙ c.rules-rule-items.ensures.rules) c.loop-rule.yielded_by c.in-None.ensures.steps.0 in
+    subst (λ rules. Joined (Has c.args.mask) (Has c.loop-rule.more) (BySome (λ x y. Has c.args.mask (head_of x) × Keeps c.args.table.now c.args.span.from c.args.span.to c.args.span.worth x y) rules)) (sym all) c.loop-rule.invariant
+
+pub returns-clause-within : goal.returns-clause-within
+returns-clause-within g c = subst (λ k. RulesWithin k (g.L.UntilLanguage.rules c.args.language.now)) (sym c.requires.symbols) c.rules-rule-items.ensures.named

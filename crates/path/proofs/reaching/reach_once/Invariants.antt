@@ -1,11 +1,8 @@
-use Rattle.std.proofs.Common.{◌≡◌, Some}
-use Rattle.std.specs.List.{slice_get}
-use Rattle.model.specs.Relations.{Joined, Upto}
+use Rattle.model.specs.Relations.{Joined}
 use Rattle.model.specs.Sets.{Has}
-use Rattle.language.specs.declared.rule.Rule.{Rule}
-use Rattle.language.specs.Rules.{head_of}
+use Rattle.language.specs.Rules.{head_of, BySome}
 use Rattle.path.specs.Reaching.{Keeps}
 use Rattle.path.proofs.reaching.reach_once.Given as goal
 
-abbrev pub invariant-loop-place : goal.invariant-loop-place
-invariant-loop-place g l = Joined (Has l.mask) (Has l.more) (Upto (λ i y. (x : Rule) × (slice_get (g.L.UntilLanguage.rules l.language) i ≡ Some x) × (Has l.mask (head_of x) × Keeps l.scope l.work l.from l.to l.worth x y)) l.place)
+abbrev pub invariant-loop-rule : goal.invariant-loop-rule
+invariant-loop-rule g l = Joined (Has l.mask) (Has l.more) (BySome (λ x y. Has l.mask (head_of x) × Keeps l.table l.span.from l.span.to l.span.worth x y) l.yielded)

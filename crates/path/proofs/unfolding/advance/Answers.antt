@@ -8,8 +8,8 @@ pub returns-in-Both : goal.returns-in-Both
 returns-in-Both c =
     let is = c.in-Both.is in
     let two : laid c.args.found ≡ 2 = ap laid is in
-    let first = accepted c.push-in-Both.result _ _ _ (λ full. omega (arith, full, c.requires.0, two)) c.push-in-Both.ensures.cause c.push-in-Both.ensures.items in
-    let second = accepted c.push-in-Both-2.result _ _ _ (λ full. omega (arith, full, c.requires.0, two, simp length-append at (ap length first), c.push-in-Both.ensures.room)) c.push-in-Both-2.ensures.cause c.push-in-Both-2.ensures.items in
+    let first = accepted c.push-in-Both.result _ _ _ (λ full. omega (arith, full, c.requires.room, two)) c.push-in-Both.ensures.cause c.push-in-Both.ensures.items in
+    let second = accepted c.push-in-Both-2.result _ _ _ (λ full. omega (arith, full, c.requires.room, two, simp length-append at (ap length first), c.push-in-Both.ensures.room)) c.push-in-Both-2.ensures.cause c.push-in-Both-2.ensures.items in
     record {
       items = second ∙ ap (λ y. y ++ record { symbol = c.in-Both.left; from = c.args.fact.from; to = c.in-Both.through } ∷ []) first ∙ append_assoc (items c.args.pile.now) (record { symbol = c.in-Both.right; from = c.in-Both.through; to = c.args.fact.to } ∷ []) (record { symbol = c.in-Both.left; from = c.args.fact.from; to = c.in-Both.through } ∷ []) ∙ sym (ap (λ sp. items c.args.pile.now ++ parts c.args.fact sp) is);
       room = c.push-in-Both-2.ensures.room ∙ c.push-in-Both.ensures.room;

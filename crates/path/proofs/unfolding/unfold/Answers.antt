@@ -8,37 +8,37 @@ use Rattle.path.proofs.unfolding.unfold.Goals as goal
 
 pub returns-then-count-eq0 : goal.returns-then-count-eq0
 returns-then-count-eq0 g c =
-    let both = zero_path c.args.scope.now (g.L.UntilLanguage.rules c.args.language.now) c.args.work.now c.requires.sound c.args.fact c.args.count c.args.steps.now c.if-count-eq0.true c.requires.known.3 in
+    let both = zero_path (g.L.UntilLanguage.rules c.args.language.now) c.args.table.now c.requires.sound c.args.fact c.args.count c.args.steps.now c.if-count-eq0.true c.requires.known.3 in
     record { guarded = both.0; derived = both.1; others = refl }
 
 pub loop-next-init : goal.loop-next-init
 loop-next-init g c =
     let empty = c.over-pile.ensures.empty in
     let there : room c.over-pile.result ≡ length c.args.waiting.now = c.over-pile.ensures.room in
-    let pushed = accepted c.push.result _ _ _ (λ full. omega (arith, full, ap length empty, there, c.requires.lengths.1.0, c.if-count-eq0.false)) c.push.ensures.cause c.push.ensures.items in
+    let pushed = accepted c.push.result _ _ _ (λ full. omega (arith, full, ap length empty, there, c.requires.waiting, c.if-count-eq0.false)) c.push.ensures.cause c.push.ensures.items in
     let e : reverse (items c.push.new.self) ≡ c.args.fact ∷ [] = reverse_last _ _ _ pushed ∙ ap (λ y. c.args.fact ∷ reverse y) empty in (
-      subst (λ fs. Doing c.args.scope.now (g.L.UntilLanguage.rules c.args.language.now) c.args.work.now c.args.fact c.args.count c.args.steps.now fs c.args.steps.now 0) (sym e) (doing_start c.args.scope.now (g.L.UntilLanguage.rules c.args.language.now) c.args.work.now c.args.fact c.args.count c.args.steps.now (omega (arith, c.if-count-eq0.false)) c.requires.known.3),
-      omega (arith, c.push.ensures.room, there, c.requires.lengths.1.0),
+      subst (λ fs. Doing (g.L.UntilLanguage.rules c.args.language.now) c.args.table.now c.args.fact c.args.count c.args.steps.now fs c.args.steps.now 0) (sym e) (doing_start (g.L.UntilLanguage.rules c.args.language.now) c.args.table.now c.args.fact c.args.count c.args.steps.now (omega (arith, c.if-count-eq0.false)) c.requires.known.3),
+      omega (arith, c.push.ensures.room, there, c.requires.waiting),
     )
 
 pub split-found-requires : goal.split-found-requires
 split-found-requires g c =
-    let d = subst (λ fs. Doing c.args.scope.now (g.L.UntilLanguage.rules c.args.language.now) c.args.work.now c.args.fact c.args.count c.args.steps.now fs c.loop-next.steps c.loop-next.written) (reverse_last _ _ _ c.in-Some.ensures.items) c.loop-next.invariant.0 in
-    let t = turn c.args.scope.now (g.L.UntilLanguage.rules c.args.language.now) c.args.work.now c.args.fact c.args.count c.args.steps.now c.in-Some.next (reverse (items c.pop.new.self)) c.loop-next.steps c.loop-next.written (room c.pop.new.self) (omega (arith, c.loop-next.invariant.1, c.pop.ensures.room)) d in
-    record { sizes = c.requires.sizes; sound = c.requires.sound; known = (t.steps, c.requires.known.0, t.some, omega (arith, t.few, c.requires.known.1), omega (arith, t.few, c.requires.lengths.1.1), c.requires.known.2, t.known) }
+    let d = subst (λ fs. Doing (g.L.UntilLanguage.rules c.args.language.now) c.args.table.now c.args.fact c.args.count c.args.steps.now fs c.loop-next.steps c.loop-next.written) (reverse_last _ _ _ c.in-Some.ensures.items) c.loop-next.invariant.0 in
+    let t = turn (g.L.UntilLanguage.rules c.args.language.now) c.args.table.now c.args.fact c.args.count c.args.steps.now c.in-Some.next (reverse (items c.pop.new.self)) c.loop-next.steps c.loop-next.written (room c.pop.new.self) (omega (arith, c.loop-next.invariant.1, c.pop.ensures.room)) d in
+    record { symbols = c.requires.symbols; sound = c.requires.sound; known = (t.steps, c.requires.known.0, t.some, omega (arith, t.few, c.requires.known.1), omega (arith, t.few, c.requires.few), c.requires.known.2, t.known) }
 
 pub advance-written-requires : goal.advance-written-requires
 advance-written-requires g c =
-    let d = subst (λ fs. Doing c.args.scope.now (g.L.UntilLanguage.rules c.args.language.now) c.args.work.now c.args.fact c.args.count c.args.steps.now fs c.loop-next.steps c.loop-next.written) (reverse_last _ _ _ c.in-Some.ensures.items) c.loop-next.invariant.0 in
-    let t = turn c.args.scope.now (g.L.UntilLanguage.rules c.args.language.now) c.args.work.now c.args.fact c.args.count c.args.steps.now c.in-Some.next (reverse (items c.pop.new.self)) c.loop-next.steps c.loop-next.written (room c.pop.new.self) (omega (arith, c.loop-next.invariant.1, c.pop.ensures.room)) d in
+    let d = subst (λ fs. Doing (g.L.UntilLanguage.rules c.args.language.now) c.args.table.now c.args.fact c.args.count c.args.steps.now fs c.loop-next.steps c.loop-next.written) (reverse_last _ _ _ c.in-Some.ensures.items) c.loop-next.invariant.0 in
+    let t = turn (g.L.UntilLanguage.rules c.args.language.now) c.args.table.now c.args.fact c.args.count c.args.steps.now c.in-Some.next (reverse (items c.pop.new.self)) c.loop-next.steps c.loop-next.written (room c.pop.new.self) (omega (arith, c.loop-next.invariant.1, c.pop.ensures.room)) d in
     let space = t.space c.split-found.result c.split-found.ensures in
     let long = length-reverse (items c.pop.new.self) in
-    (omega (arith, space.0), omega (arith, space.1, c.requires.lengths.0, c.loop-next.auto.steps))
+    record { room = omega (arith, space.0); steps = omega (arith, space.1, c.requires.steps, c.loop-next.auto.steps) }
 
 pub loop-next-smaller : goal.loop-next-smaller
 loop-next-smaller g c =
-    let d = subst (λ fs. Doing c.args.scope.now (g.L.UntilLanguage.rules c.args.language.now) c.args.work.now c.args.fact c.args.count c.args.steps.now fs c.loop-next.steps c.loop-next.written) (reverse_last _ _ _ c.in-Some.ensures.items) c.loop-next.invariant.0 in
-    let t = turn c.args.scope.now (g.L.UntilLanguage.rules c.args.language.now) c.args.work.now c.args.fact c.args.count c.args.steps.now c.in-Some.next (reverse (items c.pop.new.self)) c.loop-next.steps c.loop-next.written (room c.pop.new.self) (omega (arith, c.loop-next.invariant.1, c.pop.ensures.room)) d in
+    let d = subst (λ fs. Doing (g.L.UntilLanguage.rules c.args.language.now) c.args.table.now c.args.fact c.args.count c.args.steps.now fs c.loop-next.steps c.loop-next.written) (reverse_last _ _ _ c.in-Some.ensures.items) c.loop-next.invariant.0 in
+    let t = turn (g.L.UntilLanguage.rules c.args.language.now) c.args.table.now c.args.fact c.args.count c.args.steps.now c.in-Some.next (reverse (items c.pop.new.self)) c.loop-next.steps c.loop-next.written (room c.pop.new.self) (omega (arith, c.loop-next.invariant.1, c.pop.ensures.room)) d in
     let space = t.space c.split-found.result c.split-found.ensures in
     let long = length-reverse (items c.pop.new.self) in
     let before = simp length-append at (ap length c.in-Some.ensures.items) in
@@ -47,19 +47,19 @@ loop-next-smaller g c =
 
 pub loop-next-preserved : goal.loop-next-preserved
 loop-next-preserved g c =
-    let d = subst (λ fs. Doing c.args.scope.now (g.L.UntilLanguage.rules c.args.language.now) c.args.work.now c.args.fact c.args.count c.args.steps.now fs c.loop-next.steps c.loop-next.written) (reverse_last _ _ _ c.in-Some.ensures.items) c.loop-next.invariant.0 in
-    let t = turn c.args.scope.now (g.L.UntilLanguage.rules c.args.language.now) c.args.work.now c.args.fact c.args.count c.args.steps.now c.in-Some.next (reverse (items c.pop.new.self)) c.loop-next.steps c.loop-next.written (room c.pop.new.self) (omega (arith, c.loop-next.invariant.1, c.pop.ensures.room)) d in
+    let d = subst (λ fs. Doing (g.L.UntilLanguage.rules c.args.language.now) c.args.table.now c.args.fact c.args.count c.args.steps.now fs c.loop-next.steps c.loop-next.written) (reverse_last _ _ _ c.in-Some.ensures.items) c.loop-next.invariant.0 in
+    let t = turn (g.L.UntilLanguage.rules c.args.language.now) c.args.table.now c.args.fact c.args.count c.args.steps.now c.in-Some.next (reverse (items c.pop.new.self)) c.loop-next.steps c.loop-next.written (room c.pop.new.self) (omega (arith, c.loop-next.invariant.1, c.pop.ensures.room)) d in
     let space = t.space c.split-found.result c.split-found.ensures in
     let long = length-reverse (items c.pop.new.self) in
-    let more = doing_more c.args.scope.now (g.L.UntilLanguage.rules c.args.language.now) c.args.work.now c.args.fact c.args.count c.args.steps.now c.split-found.result c.in-Some.next (reverse (items c.pop.new.self)) c.loop-next.steps c.loop-next.written (omega (arith, space.1, c.requires.lengths.0, c.loop-next.auto.steps)) c.split-found.ensures d in (
-      subst (λ n. Doing c.args.scope.now (g.L.UntilLanguage.rules c.args.language.now) c.args.work.now c.args.fact c.args.count c.args.steps.now (reverse (items c.advance-written.new.pile)) c.advance-written.new.steps n) (sym c.advance-written.ensures.written)
-          (subst (λ xs. Doing c.args.scope.now (g.L.UntilLanguage.rules c.args.language.now) c.args.work.now c.args.fact c.args.count c.args.steps.now (reverse (items c.advance-written.new.pile)) xs (c.loop-next.written + wrote c.split-found.result)) (sym c.advance-written.ensures.steps)
-          (subst (λ fs. Doing c.args.scope.now (g.L.UntilLanguage.rules c.args.language.now) c.args.work.now c.args.fact c.args.count c.args.steps.now fs (stepped c.split-found.result c.loop-next.steps c.loop-next.written) (c.loop-next.written + wrote c.split-found.result)) (sym (reverse_more (items c.advance-written.new.pile) (items c.pop.new.self) (parts c.in-Some.next c.split-found.result) c.advance-written.ensures.items)) more)),
+    let more = doing_more (g.L.UntilLanguage.rules c.args.language.now) c.args.table.now c.args.fact c.args.count c.args.steps.now c.split-found.result c.in-Some.next (reverse (items c.pop.new.self)) c.loop-next.steps c.loop-next.written (omega (arith, space.1, c.requires.steps, c.loop-next.auto.steps)) c.split-found.ensures d in (
+      subst (λ n. Doing (g.L.UntilLanguage.rules c.args.language.now) c.args.table.now c.args.fact c.args.count c.args.steps.now (reverse (items c.advance-written.new.pile)) c.advance-written.new.steps n) (sym c.advance-written.ensures.written)
+          (subst (λ xs. Doing (g.L.UntilLanguage.rules c.args.language.now) c.args.table.now c.args.fact c.args.count c.args.steps.now (reverse (items c.advance-written.new.pile)) xs (c.loop-next.written + wrote c.split-found.result)) (sym c.advance-written.ensures.steps)
+          (subst (λ fs. Doing (g.L.UntilLanguage.rules c.args.language.now) c.args.table.now c.args.fact c.args.count c.args.steps.now fs (stepped c.split-found.result c.loop-next.steps c.loop-next.written) (c.loop-next.written + wrote c.split-found.result)) (sym (reverse_more (items c.advance-written.new.pile) (items c.pop.new.self) (parts c.in-Some.next c.split-found.result) c.advance-written.ensures.items)) more)),
       omega (arith, c.loop-next.invariant.1, c.pop.ensures.room, c.advance-written.ensures.room),
     )
 
 pub returns : goal.returns
 returns g c =
-    let d = subst (λ fs. Doing c.args.scope.now (g.L.UntilLanguage.rules c.args.language.now) c.args.work.now c.args.fact c.args.count c.args.steps.now fs c.loop-next.steps c.loop-next.written) (ap reverse c.in_default.ensures.items) c.loop-next.invariant.0 in
-    let (a, b, o) = doing_end c.args.scope.now (g.L.UntilLanguage.rules c.args.language.now) c.args.work.now c.args.fact c.args.count c.args.steps.now c.loop-next.steps c.loop-next.written d in
+    let d = subst (λ fs. Doing (g.L.UntilLanguage.rules c.args.language.now) c.args.table.now c.args.fact c.args.count c.args.steps.now fs c.loop-next.steps c.loop-next.written) (ap reverse c.in_default.ensures.items) c.loop-next.invariant.0 in
+    let (a, b, o) = doing_end (g.L.UntilLanguage.rules c.args.language.now) c.args.table.now c.args.fact c.args.count c.args.steps.now c.loop-next.steps c.loop-next.written d in
     record { guarded = a; derived = b; others = o }

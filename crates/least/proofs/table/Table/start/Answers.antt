@@ -1,15 +1,18 @@
-use Rattle.std.proofs.Common.{sym, ◌∙◌, arith}
-use Rattle.least.proofs.Runs.{run_skip, run_as, run_at, run_all}
-use Rattle.least.proofs.table.Table.start.Goals.{in-Some, in_default}
+use Rattle.std.proofs.Common.{sym, ap, ◌∙◌, subst}
+use Rattle.language.proofs.Coming.{coming_among}
+use Rattle.language.specs.Rules.{SymbolsBelow}
+use Rattle.least.specs.declared.scope.Scope.{Scope}
+use Rattle.least.proofs.Runs.{run_next}
 use Rattle.least.proofs.table.Table.start.Goals as goal
 
-pub loop-place-preserved : goal.loop-place-preserved
-loop-place-preserved g c = elim c.match-rule.branch [
-  | in-Some w ↦
-      let here = sym c.rule.ensures ∙ w.in-Some.is in
-      run_as _ w.self-is w.fell-is (run_at _ _ _ _ here c.loop-place.invariant (w.start_rule-fell.ensures _ (_, here)))
-  | in_default w ↦ run_as _ w.self-is w.fell-is (run_skip _ _ c.loop-place.invariant (λ r is. absurd (w.in_default.not-Some r (c.rule.ensures ∙ is))))
-]
+pub start_rule-fell-requires : goal.start_rule-fell-requires
+start_rule-fell-requires g c =
+    let given = c.rules-rule-items.ensures in
+    let among = coming_among _ (c.into_iter-rule-iterator.ensures.into_iter_gives ∙ given.rules) c.loop-rule.yielded_by c.in-Some.ensures.steps in
+    subst (λ k. SymbolsBelow k c.in-Some.rule) (sym c.requires ∙ ap (λ (z : Scope). z.symbols) (sym c.loop-rule.invariant.same)) (given.named c.in-Some.rule among)
 
-pub returns : goal.returns
-returns g c = run_all _ _ _ (omega (arith, c.rule_count-place-end.ensures, c.loop-place-test.false)) c.loop-place.invariant
+pub loop-rule-preserved : goal.loop-rule-preserved
+loop-rule-preserved g c =
+    let given = c.rules-rule-items.ensures in
+    let among = coming_among _ (c.into_iter-rule-iterator.ensures.into_iter_gives ∙ given.rules) c.loop-rule.yielded_by c.in-Some.ensures.steps in
+    run_next _ _ _ c.loop-rule.invariant (c.start_rule-fell.ensures _ among)

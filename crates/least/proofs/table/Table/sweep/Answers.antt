@@ -1,15 +1,24 @@
-use Rattle.std.proofs.Common.{sym, ◌∙◌, arith}
-use Rattle.least.proofs.Runs.{run_skip, run_as, run_at, run_all}
-use Rattle.least.proofs.table.Table.sweep.Goals.{in-Some, in_default}
+use Rattle.std.proofs.Common.{sym, ap, ◌∙◌, subst}
+use Rattle.model.specs.Relations.{Among}
+use Rattle.language.proofs.Coming.{coming_among}
+use Rattle.language.specs.Rules.{SymbolsBelow}
+use Rattle.least.specs.declared.scope.Scope.{Scope}
+use Rattle.least.proofs.Runs.{all_came, run_like, run_next}
 use Rattle.least.proofs.table.Table.sweep.Goals as goal
 
-pub loop-place-preserved : goal.loop-place-preserved
-loop-place-preserved g c = elim c.match-rule.branch [
-  | in-Some w ↦
-      let here = sym c.rule.ensures ∙ w.in-Some.is in
-      run_as _ w.self-is w.fell-is (run_at _ _ _ _ here c.loop-place.invariant (w.sweep_rule-fell.ensures _ (_, here)))
-  | in_default w ↦ run_as _ w.self-is w.fell-is (run_skip _ _ c.loop-place.invariant (λ r is. absurd (w.in_default.not-Some r (c.rule.ensures ∙ is))))
-]
+pub sweep_rule-fell-requires : goal.sweep_rule-fell-requires
+sweep_rule-fell-requires g c =
+    let given = c.rules-rule-items.ensures in
+    let among = coming_among _ (c.into_iter-rule-iterator.ensures.into_iter_gives ∙ given.rules) c.loop-rule.yielded_by c.in-Some.ensures.steps in
+    subst (λ k. SymbolsBelow k c.in-Some.rule) (sym c.requires ∙ ap (λ (z : Scope). z.symbols) (sym c.loop-rule.invariant.same)) (given.named c.in-Some.rule among)
+
+pub loop-rule-preserved : goal.loop-rule-preserved
+loop-rule-preserved g c =
+    let given = c.rules-rule-items.ensures in
+    let among = coming_among _ (c.into_iter-rule-iterator.ensures.into_iter_gives ∙ given.rules) c.loop-rule.yielded_by c.in-Some.ensures.steps in
+    run_next _ _ _ c.loop-rule.invariant (c.sweep_rule-fell.ensures _ among)
 
 pub returns : goal.returns
-returns g c = run_all _ _ _ (omega (arith, c.rule_count-place-end.ensures, c.loop-place-test.false)) c.loop-place.invariant
+returns g c =
+    let all = all_came _ (c.into_iter-rule-iterator.ensures.into_iter_gives ∙ c.rules-rule-items.ensures.rules) c.loop-rule.yielded_by c.in-None.ensures.steps.0 in
+    run_like _ _ (λ at r r∈. at r (subst (Among r) all r∈)) c.loop-rule.invariant

@@ -1,0 +1,7 @@
+// Two states, and the entry of a fact between them.
+#[derive(Clone, Copy, PartialEq, Eq, Debug)]
+pub struct Span {
+    pub from: u8,
+    pub to: u8,
+    pub worth: u32,
+}
