@@ -39,7 +39,7 @@ impl Sheet<'_> {
         let guarded = GuardedModel::of(self.model, holds);
         let some = satisfying(&fitting, &guarded, reached, work);
         shortest(
-            language, self.model, holds, reached, some, state, work, waiting, steps,
+            &fitting, self.model, holds, reached, some, state, work, waiting, steps,
         )
     }
 }
