@@ -1,5 +1,7 @@
 -- Causes in a row: what passes the first ones, and what they stop.
-use Rattle.std.proofs.Common.{◌≡◌, ℕ, ◌*◌, ◌<◌, ◌≤◌, ◌⊎◌, List, length, Some, None, Option, inl, inr, arith}
+use Rattle.std.proofs.Common.{◌≡◌, ℕ, ◌*◌, ◌<◌, ◌≤◌, ◌⊎◌, List, length, Some, None, Option, sym, inl, inr}
+use Rattle.std.proofs.Math.Nat.{lt_of_not-le}
+use Rattle.std.proofs.lemmas.Option.{none-some}
 use Rattle.std.proofs.lemmas.Bool.{cases_lt}
 use Rattle.model.specs.declared.edge.Step.{Step}
 use Rattle.model.specs.declared.model.Model.{Model}
@@ -7,16 +9,14 @@ use Rattle.model.specs.Refusals.{Refuse, Accept}
 use Rattle.sheet.specs.Causes.{CauseNot, CausePath, CauseUntil, CauseRelease, Told, TooLong, limit}
 use Rattle.language.specs.Tables.{Table}
 
-pub none_some : {A : Type 0} {n : ℕ} → ◌≡◌ {A = Option ℕ} None (Some n) → A
-none_some e = let z : ◌≡◌ {A = ℕ} 0 1 = cc in absurd (omega arith)
-
-pub some_none : {A : Type 0} {n : ℕ} → ◌≡◌ {A = Option ℕ} (Some n) None → A
-some_none e = let z : ◌≡◌ {A = ℕ} 0 1 = cc in absurd (omega arith)
+-- what a call that was not stopped has shown: its first cause was not met, and the later ones stopped nothing
+pub passed : {C L : Type 0} {k : ℕ} → (C × (◌≡◌ {A = Option ℕ} None (Some k))) ⊎ ((C → ⊥) × L) → (C → ⊥) × L
+passed (inl met) = absurd (none-some _ met.1)
+passed (inr met) = met
 
 -- a cause that stopped nothing lets through what comes of the later ones
 pub pass : {C L L' : Type 0} {k : ℕ} {o : Option ℕ} → (C × (◌≡◌ {A = Option ℕ} None (Some k))) ⊎ ((C → ⊥) × L) → (L → L') → (C × (o ≡ Some k)) ⊎ ((C → ⊥) × L')
-pass (inl met) f = none_some met.1
-pass (inr met) f = inr (met.0, f met.1)
+pass free f = let p = passed free in inr (p.0, f p.1)
 
 -- the later causes in other words
 pub later_like : {C L L' : Type 0} {k : ℕ} {o : Option ℕ} → (L → L') → (C × (o ≡ Some k)) ⊎ ((C → ⊥) × L) → (C × (o ≡ Some k)) ⊎ ((C → ⊥) × L')
@@ -28,15 +28,15 @@ pub last_like : {C C' L : Type 0} {k : ℕ} {o : Option ℕ} → (C → C') → 
 last_like to from (inl met) = inl (to met.0, met.1)
 last_like to from (inr met) = inr (λ c. met.0 (from c), met.1)
 
+not_lt : {a b : ℕ} → (a < b → ⊥) → b ≤ a
+not_lt {a} {b} none = elim (cases_lt a b) [ inl l ↦ absurd (none l) | inr l ↦ l ]
+
 -- what an accepted call has shown of its parts
 pub part_there : (n q : ℕ) → CauseNot q n None → q < n
-part_there n q (inl met) = none_some met.1
-part_there n q (inr met) = elim (cases_lt q n) [ inl l ↦ l | inr l ↦ absurd (met.0 l) ]
+part_there n q free = lt_of_not-le (passed free).0
 
 pub parts_there : (n a b : ℕ) {L : Type 0} → (((n ≤ a) ⊎ (n ≤ b)) × (◌≡◌ {A = Option ℕ} None (Some 21))) ⊎ ((((n ≤ a) ⊎ (n ≤ b)) → ⊥) × L) → (a < n) × (b < n)
-parts_there n a b (inl met) = none_some met.1
-parts_there n a b (inr met) =
-    (elim (cases_lt a n) [ inl l ↦ l | inr l ↦ absurd (met.0 (inl l)) ], elim (cases_lt b n) [ inl l ↦ l | inr l ↦ absurd (met.0 (inr l)) ])
+parts_there n a b free = let none = (passed free).0 in (lt_of_not-le (λ l. none (inl l)), lt_of_not-le (λ l. none (inr l)))
 
 abbrev pub none_good : List Step → Type 0
 none_good p = ⊥
@@ -52,24 +52,13 @@ module _ (m : Model) (l : Told) (work waiting steps guard goal s n : ℕ) where
     where
       none : Refuse (TooLong none_good (limit steps)) 24 Accept (Some e) → Refuse (TooLong Good (limit steps)) 24 Accept (Some e)
       none (inl h) = absurd h.0.0.1
-      none (inr h) = some_none h.1
-
--- what a search may rest on after an accepted check
-pub passed : {C L : Type 0} {k : ℕ} → (C × (◌≡◌ {A = Option ℕ} None (Some k))) ⊎ ((C → ⊥) × L) → (C → ⊥) × L
-passed (inl met) = none_some met.1
-passed (inr met) = met
+      none (inr h) = absurd (none-some _ (sym h.1))
 
 pub until_there : (m : Model) (l : Told) (work guard goal n : ℕ) → CauseUntil m l work guard goal n None → (guard < n) × (goal < n)
 until_there m l work guard goal n free = parts_there n guard goal (passed (passed (passed free).1).1).1
 
 pub release_there : (m : Model) (known : ℕ) (t : Table) (freeing kept n : ℕ) → CauseRelease m known t freeing kept n None → (freeing < n) × (kept < n)
 release_there m known t freeing kept n free = parts_there n freeing kept (passed (passed free).1).1
-
-not_le : {a b : ℕ} → (a ≤ b → ⊥) → b < a
-not_le {a} {b} none = elim (cases_lt b a) [ inl l ↦ l | inr l ↦ absurd (none l) ]
-
-not_lt : {a b : ℕ} → (a < b → ⊥) → b ≤ a
-not_lt {a} {b} none = elim (cases_lt a b) [ inl l ↦ absurd (none l) | inr l ↦ l ]
 
 -- what a path search may rest on
 pub record Searchable (m : Model) (l : Told) (work waiting steps guard goal s n : ℕ) : Type 0 where
@@ -87,13 +76,13 @@ searchable m l work waiting steps guard goal s n free =
     let b = passed (passed a.1).1 in
     let c = passed b.1 in
     let d = passed c.1 in
-    let e = passed d.1 in
+    let there = parts_there n guard goal d.1 in
     record {
-      state = not_le a.0;
+      state = lt_of_not-le a.0;
       symbols = not_lt (λ h. b.0 (inl h));
       rules = not_lt (λ h. b.0 (inr h));
       room = not_lt c.0;
       memory = not_lt d.0;
-      guarded = not_le (λ h. e.0 (inl h));
-      aimed = not_le (λ h. e.0 (inr h));
+      guarded = there.0;
+      aimed = there.1;
     }

@@ -1,6 +1,5 @@
 -- The marks of a question are right where its parts' marks are.
-use Rattle.std.proofs.Common.{ℕ, ◌/◌, ◌%◌, ◌^◌, ◌<◌, ◌≤◌, ◌⊎◌, List, inl, inr, ⊎_elim, arith}
-use native.Mathlib.Decide.{ℕ_discrete}
+use Rattle.std.proofs.Common.{ℕ, ◌<◌, ◌≤◌, ◌⊎◌, List, inl, inr, ⊎_elim, arith}
 use Rattle.model.specs.declared.model.Model.{Model}
 use Rattle.model.specs.declared.number_set.NumberSet.{NumberSet}
 use Rattle.model.specs.Models.{Labelled}
@@ -14,10 +13,6 @@ use Rattle.logic.specs.Paths.{SomeGood}
 use Rattle.logic.specs.Maximal.{SomeKeeps}
 use Rattle.logic.proofs.Mapping.{Follows, some_good_map, some_keeps_map}
 use Rattle.sheet.specs.Books.{Marks}
-
--- whether a state is in a set can be told
-pub has_dec : (x : NumberSet) (s : ℕ) → Dec (Has x s)
-has_dec x s = ℕ_discrete ((x.bits / 2 ^ s) % 2) 1
 
 pub marks_proposition : (m : Model) (p : ℕ) (x : NumberSet) → Exactly (Has x) (λ s. (s < m.states) × Labelled m s p) → Marks m (proposition p) x
 marks_proposition m p x e s l = (λ h. ((e s).0 h).1, λ h. (e s).1 (l, h))

@@ -111,7 +111,8 @@ impl Sheet<'_> {
         self.parts(freeing, kept)
     }
 
-    // All causes of a path call but the last, which only the search can tell.
+    // The language and the marks of guard and goal, for a path call: all its causes but the last, which only the search
+    // can tell. The lengths of the lent memory come one by one, as the call is given the memory.
     pub(crate) fn path_parts<'l, L: UntilLanguage>(
         &self,
         guard: usize,

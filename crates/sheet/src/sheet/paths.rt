@@ -25,7 +25,8 @@ impl Sheet<'_> {
         steps: &mut [Step],
     ) -> Result<Option<usize>, Refusal>
         ensures answer { Witnessed self.now (told (L.Alphabet.known language.now) (L.UntilLanguage.symbols language.now) (L.UntilLanguage.rules language.now)) (L.UntilLanguage.words language.now) (length work.old) (length waiting.old) steps.old steps.new guard goal state result }
-        ensures scratch { Unless24 result ((work.new ≡ work.old) × (waiting.new ≡ waiting.old)) }
+        ensures work { Unless24 result (work.new ≡ work.old) }
+        ensures waiting { Unless24 result (waiting.new ≡ waiting.old) }
     {
         let (fitting, (holds, reached)) = self.path_parts(
             guard,

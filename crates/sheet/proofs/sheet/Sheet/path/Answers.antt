@@ -9,7 +9,7 @@ use Rattle.sheet.proofs.sheet.Sheet.path.Goals as goal
 pub returns-in_err-fitting : goal.returns-in_err-fitting
 returns-in_err-fitting g c =
     let p = err_from_is_err_and c.from_residual.result c.from_residual.ensures.1 in
-    rw (p.1, p.2) (record { answer = witnessed_stopped _ _ _ _ _ _ _ _ _ _ _ c.in_err-fitting.ensures.cause refl; scratch = λ _. (refl, refl) })
+    rw (p.1, p.2) (record { answer = witnessed_stopped _ _ _ _ _ _ _ _ _ _ _ c.in_err-fitting.ensures.cause refl; work = λ _. refl; waiting = λ _. refl })
 
 pub shortest-requires : goal.shortest-requires
 shortest-requires g c =
@@ -35,5 +35,6 @@ returns g c =
     record {
       answer = witnessed_shown _ tells _ _ _ _ _ _ _ _ _ _ c.in_ok-fitting.ensures.marks free
           (λ w. laws.derived language w may.symbols may.rules) (λ w. laws.only_derived language w may.symbols may.rules) c.shortest.result (rw c.in_ok-fitting.ensures.same at c.shortest.ensures);
-      scratch = shown_unless _ _ _ _ _ _ _ _ c.shortest.result _ c.shortest.ensures;
+      work = shown_unless _ _ _ _ _ _ _ _ c.shortest.result _ c.shortest.ensures;
+      waiting = shown_unless _ _ _ _ _ _ _ _ c.shortest.result _ c.shortest.ensures;
     }
