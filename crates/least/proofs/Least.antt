@@ -8,7 +8,8 @@ use Rattle.logic.specs.Facts.{Triple}
 use Rattle.least.specs.declared.table.Table.{Table}
 use Rattle.least.specs.Walks.{WalkWithin, GivesIn}
 use Rattle.least.specs.Entries.{ground_of, entry_of, Known, AtMost, Closed}
-use Rattle.least.proofs.Walking.{walk_to, guarded_start, guarded_end}
+use Rattle.logic.proofs.GuardedPaths.{guarded_start, guarded_end}
+use Rattle.least.proofs.Walking.{walk_to}
 
 module _ (t : Table) (rules : List Rule) (top : ℕ) (in_rules : RulesWithin t.scope.symbols rules) (closed : Closed rules top t) where
   at_most_up : (e i n : ℕ) → i ≤ n → AtMost i e → AtMost n e

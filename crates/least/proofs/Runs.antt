@@ -1,14 +1,13 @@
 -- Runs of lowerings, one after another.
-use Rattle.std.proofs.Common.{◌≡◌, ℕ, zero, suc, ◌+◌, ◌-◌, ◌*◌, ◌/◌, ◌^◌, ◌<◌, ◌≤◌, Bool, true, false, ◌||◌, ◌≢◌, ◌⊎◌, List, [], ◌∷◌, ◌++◌, length, get_or, set, Some, sym, refl, ap, ◌∙◌, subst, inl, inr, ⊎_elim, true≢false, mul-le-mul_right, append-nil, arith, get_or-set_other, get_or-set_same}
+use Rattle.std.proofs.Common.{◌≡◌, ℕ, zero, suc, ◌+◌, ◌-◌, ◌*◌, ◌/◌, ◌^◌, ◌<◌, ◌≤◌, Bool, true, false, ◌||◌, ◌≢◌, ◌⊎◌, List, [], ◌∷◌, ◌++◌, length, get_or, set, Some, sym, refl, ap, ◌∙◌, subst, inl, inr, ⊎_elim, true≢false, mul-le-mul_right, arith, get_or-set_other, get_or-set_same}
 use mathlib.Core.Bool.{false≢true}
 use native.Mathlib.Decide.{dec_lt, ℕ_discrete}
 use lib.Arith.{digits_div}
 use Rattle.std.specs.List.{slice_get}
-use Rattle.std.specs.Iterator.{Yields}
 use Rattle.model.specs.Relations.{Among}
 use Rattle.model.proofs.Joins.{same_place, place_before}
 use Rattle.language.specs.declared.rule.Rule.{Rule}
-use Rattle.language.proofs.Coming.{GivesFirst, all_rules, among_last}
+use Rattle.language.proofs.Coming.{among_last}
 use Rattle.logic.specs.Facts.{Triple}
 use Rattle.least.specs.declared.scope.Scope.{Scope}
 use Rattle.least.specs.declared.table.Table.{Table}
@@ -71,10 +70,6 @@ place_in c long p l i =
     let a : (p.0 + 1) * s ≤ c.symbols * s = mul-le-mul_right s (omega (arith, i.symbol)) in
     let b : (p.0 * s + p.1 + 1) * s ≤ c.symbols * s * s = mul-le-mul_right s (omega (arith, i.from)) in
     omega (arith, i.to)
-
--- when none is left, all rules came
-pub all_came : {all start left : List Rule} (gone : List Rule) → start ≡ all → Yields GivesFirst start gone left → left ≡ [] → all ≡ gone
-all_came {start = start} {left = left} gone from y none = sym from ∙ all_rules start gone left y ∙ ap (λ l. gone ++ l) none ∙ append-nil gone
 
 module _ (rules : List Rule) where
   -- one lowering, to the steps of a walk

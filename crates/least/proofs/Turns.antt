@@ -15,15 +15,15 @@ use Rattle.least.specs.declared.table.Table.{Table}
 use Rattle.least.specs.Walks.{Walk}
 use Rattle.least.specs.Entries.{ground_of, place, entry_of, In, AtMost, Closed}
 use Rattle.least.specs.Lowering.{Lowers, Given, Lifted, Summed, Run, PairAt, Lower, LedAt, LedAlong, LetterAt, EmptyAt, ShutAt, ShutStart, ShutStarts, ShutAll, ShutIn, ShutRule, FirstPart}
-use Rattle.least.proofs.Walking.{walk_from, edge_inside}
+use Rattle.least.proofs.Walking.{walk_from}
 use Rattle.least.proofs.Runs.{place_in, run_of, run_none, run_like}
 
 pub is_in : (c : Scope) (X u t : ℕ) → X < c.symbols → u < c.states → t < c.states → In c (X, u, t)
 is_in c X u t a b d = record { symbol = a; from = b; to = d }
 
 -- the edges of the model, in the scope
-pub ends_in : (c : Scope) (e : Edge) → HasEdge c.model.now e → (e.from < c.states) × (e.to < c.states)
-ends_in c e e∈ = let i = edge_inside c.model.now e e∈ in (omega (arith, i.0, c.its_states), omega (arith, i.2, c.its_states))
+pub ends_in : (c : Scope) (e : Edge) → HasEdge c.ground.now.model e → (e.from < c.states) × (e.to < c.states)
+ends_in c e e∈ = let i = c.ground.now.model.inside e e∈ in (omega (arith, i.0, c.its_states), omega (arith, i.2, c.its_states))
 
 -- the cell of a fact is in the table
 pub in_table : (t : Table) (cell : ℕ) (p : Triple) → In t.scope p → cell ≡ place t.scope.states p → cell < length t.entries.now
@@ -36,8 +36,8 @@ in_at c d p e i = subst (λ z. In z p) (sym e) i
 pub place_at : (c d : Scope) (cell : ℕ) (p : Triple) → d ≡ c → cell ≡ place c.states p → cell ≡ place d.states p
 place_at c d cell p e is = subst (λ z. cell ≡ place z.states p) (sym e) is
 
-pub edge_at : (c d : Scope) (e : Edge) → d ≡ c → HasEdge c.model.now e → HasEdge d.model.now e
-edge_at c d e same e∈ = subst (λ (z : Scope). HasEdge z.model.now e) (sym same) e∈
+pub edge_at : (c d : Scope) (e : Edge) → d ≡ c → HasEdge c.ground.now.model e → HasEdge d.ground.now.model e
+edge_at c d e same e∈ = subst (λ (z : Scope). HasEdge z.ground.now.model e) (sym same) e∈
 
 -- the row of a symbol and a from-state is in the table
 pub row_in : (t : Table) (cell X u : ℕ) → X < t.scope.symbols → u < t.scope.states → cell ≡ place t.scope.states (X, u, 0) → cell + t.scope.states ≤ length t.entries.now
@@ -88,8 +88,8 @@ module _ (rules : List Rule) (top : ℕ) where
           go (no nz) (yes l) = record { some = omega arith; low = omega arith }
           go (no nz) (no l) = absurd (none (pos, omega arith, inr (omega arith)))
 
-  pub lead_turn : (H act B s t : ℕ) (e : Edge) (part cell : ℕ) {a b : Table} {fell : Bool} → top < 2 ^ 16 → Among (Lead H act B) rules → HasEdge a.scope.model.now e
-      → e.action ≡ act → Has a.scope.guard e.from → e.to ≡ s → In a.scope (B, s, t) → In a.scope (H, e.from, t)
+  pub lead_turn : (H act B s t : ℕ) (e : Edge) (part cell : ℕ) {a b : Table} {fell : Bool} → top < 2 ^ 16 → Among (Lead H act B) rules → HasEdge a.scope.ground.now.model e
+      → e.action ≡ act → Has a.scope.ground.now.guard e.from → e.to ≡ s → In a.scope (B, s, t) → In a.scope (H, e.from, t)
       → part ≡ place a.scope.states (B, s, t) → cell ≡ place a.scope.states (H, e.from, t)
       → Lowers top cell (Lifted part 1) a b fell → Run rules (LedAt top H act (B, s, t) e) a b fell
   lead_turn H act B s t e part cell {a} {b} {fell} low r∈ e∈ ea g es i₁ i₂ e₁ e₂ j =
@@ -98,14 +98,14 @@ module _ (rules : List Rule) (top : ℕ) where
       (λ so n (i, f, z). walk_from (ground_of a.scope) rules (Lead H act B) (H, e.from, t) n r∈ (refl, e, (e∈, refl, ea, g), i, subst (λ y. Walk (ground_of a.scope) rules (B, y, t) i) (sym es) (so (B, s, t) i (record { there = i₁; is = f })), z))
       (subst (λ x. Lowers top x (Lifted (place a.scope.states (B, s, t)) 1) a b fell) e₂ (subst (λ x. Lowers top cell (Lifted x 1) a b fell) e₁ j)))
 
-  pub lead_all : (low high H act B : ℕ) (a b : Table) (fell : Bool) → Run rules (λ w. (e : Edge) → HasEdge w.scope.model.now e → LedAlong top low high H act B e w) a b fell
+  pub lead_all : (low high H act B : ℕ) (a b : Table) (fell : Bool) → Run rules (λ w. (e : Edge) → HasEdge w.scope.ground.now.model e → LedAlong top low high H act B e w) a b fell
       → Run rules (ShutRule top low high (Lead H act B)) a b fell
   lead_all low high H act B a b fell j = run_like rules _ (λ at f i lo hi p n n< (x, e, (e∈, fr, ea, g), k, (q, kn), z).
       subst (λ (y : Triple). AtMost n (entry_of a y)) (ap (λ y. (y, e.from, p.2)) (sym x) ∙ ap (λ y. (p.0, y, p.2)) (sym fr))
       (at e e∈ p.2 kn.there.to (subst (λ y. low ≤ entry_of a y) (sym q) lo) (subst (λ y. entry_of a y ≤ high) (sym q) hi) ea g refl n (k, kn.is, z) n<)) j
 
-  pub letter_turn : (H act : ℕ) (e : Edge) (cell : ℕ) {a b : Table} {fell : Bool} → top < 2 ^ 16 → Among (Letter H act) rules → HasEdge a.scope.model.now e
-      → e.action ≡ act → Has a.scope.guard e.from → In a.scope (H, e.from, e.to) → cell ≡ place a.scope.states (H, e.from, e.to)
+  pub letter_turn : (H act : ℕ) (e : Edge) (cell : ℕ) {a b : Table} {fell : Bool} → top < 2 ^ 16 → Among (Letter H act) rules → HasEdge a.scope.ground.now.model e
+      → e.action ≡ act → Has a.scope.ground.now.guard e.from → In a.scope (H, e.from, e.to) → cell ≡ place a.scope.states (H, e.from, e.to)
       → Lowers top cell (Given 2) a b fell → Run rules (LetterAt top H act e) a b fell
   letter_turn H act e cell {a} {b} {fell} low r∈ e∈ ea g i e₁ j =
       run_like rules _ (λ f _ _. f)
@@ -113,7 +113,7 @@ module _ (rules : List Rule) (top : ℕ) where
       (λ so n z. walk_from (ground_of a.scope) rules (Letter H act) (H, e.from, e.to) n r∈ (refl, e, (e∈, refl, ea, g), refl, omega arith))
       (subst (λ x. Lowers top x (Given 2) a b fell) e₁ j))
 
-  pub letter_all : (H act : ℕ) (a b : Table) (fell : Bool) → Run rules (λ w. (e : Edge) → HasEdge w.scope.model.now e → LetterAt top H act e w) a b fell
+  pub letter_all : (H act : ℕ) (a b : Table) (fell : Bool) → Run rules (λ w. (e : Edge) → HasEdge w.scope.ground.now.model e → LetterAt top H act e w) a b fell
       → Run rules (ShutStart top (Letter H act)) a b fell
   letter_all H act a b fell j = run_like rules _ (λ at p n n< (x, e, (e∈, f, ea, g), et, z).
       subst (λ (y : Triple). AtMost n (entry_of a y)) (ap (λ y. (y, e.from, e.to)) (sym x) ∙ ap (λ y. (p.0, y, e.to)) (sym f) ∙ ap (λ y. (p.0, p.1, y)) (sym et))

@@ -2,7 +2,7 @@
 use Rattle.std.specs.Prelude.{◌≡◌, ℕ, ◌+◌, ◌*◌, ◌<◌, ◌≤◌, List, slice_index}
 use Rattle.model.specs.Relations.{Among}
 use Rattle.language.specs.declared.rule.Rule.{Rule}
-use Rattle.logic.specs.Facts.{Triple, Ground, ground}
+use Rattle.logic.specs.Facts.{Triple, Ground}
 use Rattle.least.specs.declared.fact.Fact.{Fact}
 use Rattle.least.specs.declared.scope.Scope.{Scope}
 use Rattle.least.specs.declared.table.Table.{Table}
@@ -10,7 +10,7 @@ use Rattle.least.specs.Walks.{Walk, GivesIn}
 
 -- the model with its guard
 abbrev pub ground_of : Scope → Ground
-ground_of c = ground c.model.now c.guard
+ground_of c = c.ground.now
 
 abbrev pub triple : Fact → Triple
 triple f = (f.symbol, f.from, f.to)

@@ -57,7 +57,7 @@ PairAt top f g h t = (n : ℕ) → Summed (place t.scope.states f) (place t.scop
 
 -- nothing less comes by this edge before the fact f
 abbrev pub LedAt : ℕ → ℕ → ℕ → Triple → Edge → Table → Type 0
-LedAt top H a f e t = e.action ≡ a → Has t.scope.guard e.from → e.to ≡ f.1 → (n : ℕ) → Lifted (place t.scope.states f) 1 t n → n < top → AtMost n (entry_of t (H, e.from, f.2))
+LedAt top H a f e t = e.action ≡ a → Has t.scope.ground.now.guard e.from → e.to ≡ f.1 → (n : ℕ) → Lifted (place t.scope.states f) 1 t n → n < top → AtMost n (entry_of t (H, e.from, f.2))
 
 -- the same for the fact of B to u, if its entry lies between low and high
 abbrev pub LedIn : ℕ → ℕ → ℕ → ℕ → ℕ → ℕ → Edge → ℕ → Table → Type 0
@@ -69,7 +69,7 @@ LedAlong top low high H a B e t = (u : ℕ) → u < t.scope.states → LedIn top
 
 -- nothing less comes by this edge alone
 abbrev pub LetterAt : ℕ → ℕ → ℕ → Edge → Table → Type 0
-LetterAt top H a e t = e.action ≡ a → Has t.scope.guard e.from → (n : ℕ) → Given 2 t n → n < top → AtMost n (entry_of t (H, e.from, e.to))
+LetterAt top H a e t = e.action ≡ a → Has t.scope.ground.now.guard e.from → (n : ℕ) → Given 2 t n → n < top → AtMost n (entry_of t (H, e.from, e.to))
 
 -- nothing less comes by staying at s
 abbrev pub EmptyAt : ℕ → ℕ → ℕ → Table → Type 0

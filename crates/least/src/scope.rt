@@ -1,17 +1,16 @@
 // What a table of step counts is about.
 ghost use Rattle.std.specs.Prelude.{◌≡◌, ◌≤◌};
 
-use model::{Model, NumberSet};
+use logic::GuardedModel;
 
 // A model with a guard, and how many symbols there are; `states` is the model's number of states.
 #[derive(Drop)]
 pub struct Scope<'a> {
-    model: &'a Model,
-    guard: NumberSet,
+    ground: &'a GuardedModel<'a>,
     symbols: u8,
     states: u8,
     ghost few_symbols: { symbols ≤ 16 },
-    ghost its_states: { states ≡ model.now.states },
+    ghost its_states: { states ≡ ground.now.model.states },
 }
 
 mod methods;

@@ -12,7 +12,7 @@ use Rattle.least.specs.declared.fact.Fact.{Fact}
 use Rattle.least.specs.declared.table.Table.{Table}
 use Rattle.least.specs.Walks.{Leads}
 use Rattle.least.specs.Entries.{ground_of, triple, Known, Sound}
-use Rattle.least.proofs.Walking.{word_append, guarded_append, first_edge, edge_inside}
+use Rattle.logic.proofs.GuardedPaths.{word_append, guarded_append, guarded_edge}
 use Rattle.path.specs.declared.split.Split.{Split}
 use Rattle.path.specs.declared.split.Split.TheVariants.{Last, Onward, Both}
 use Rattle.path.specs.Unfolding.{Follows, Splits, Doing, laid, wrote, parts, stepped}
@@ -46,11 +46,11 @@ module _ (rules : List Rule) (w : Table) where
     on_path steps written v e a t l g ld et =
         subst (λ y. Guarded (ground_of w.scope) fact.from y t) (sym (take_more_set steps written (record { action = a; state = t }) l))
         (guarded_append (ground_of w.scope) fact.from v t (take written steps) (record { action = a; state = t } ∷ []) g
-        (subst (λ y. Guarded (ground_of w.scope) v (record { action = y; state = t } ∷ []) t) ld.2 (subst (λ y. Guarded (ground_of w.scope) v (record { action = e.action; state = y } ∷ []) y) et (first_edge (ground_of w.scope) a v e.to e [] ld ((edge_inside w.scope.model.now e ld.0).2, refl)))))
+        (subst (λ y. Guarded (ground_of w.scope) v (record { action = y; state = t } ∷ []) t) ld.2 (subst (λ y. Guarded (ground_of w.scope) v (record { action = e.action; state = y } ∷ []) y) et (guarded_edge (ground_of w.scope) e v e.to [] ld.0 ld.1 ld.3 ((w.scope.ground.now.model.inside e ld.0).2, refl)))))
 
-    on_word : (steps : List Step) (written : ℕ) (a t : ℕ) (x : Word) → written < length steps → word w.scope.model.now (take written steps) ++ (a ∷ x) ≡ word w.scope.model.now (take (written + 1) (set steps written (record { action = a; state = t }))) ++ x
+    on_word : (steps : List Step) (written : ℕ) (a t : ℕ) (x : Word) → written < length steps → word w.scope.ground.now.model (take written steps) ++ (a ∷ x) ≡ word w.scope.ground.now.model (take (written + 1) (set steps written (record { action = a; state = t }))) ++ x
     on_word steps written a t x l =
-        sym (append_assoc (word w.scope.model.now (take written steps)) (a ∷ []) x) ∙ ap (λ y. y ++ x) (sym (word_append w.scope.model.now (take written steps) (record { action = a; state = t } ∷ [])) ∙ ap (word w.scope.model.now) (sym (take_more_set steps written (record { action = a; state = t }) l)))
+        sym (append_assoc (word w.scope.ground.now.model (take written steps)) (a ∷ []) x) ∙ ap (λ y. y ++ x) (sym (word_append w.scope.ground.now.model (take written steps) (record { action = a; state = t } ∷ [])) ∙ ap (word w.scope.ground.now.model) (sym (take_more_set steps written (record { action = a; state = t }) l)))
 
     -- the split of the next fact, with its facts in place of it
     pub doing_more : (sp : Split) (f : Fact) (fs : List Fact) (steps : List Step) (written : ℕ) → written + wrote sp ≤ length steps → ((n : ℕ) → Known w (triple f) n → Splits rules w f n sp)
@@ -94,11 +94,11 @@ module _ (rules : List Rule) (w : Table) where
         }
 
     pub doing_end : (steps : List Step) (written : ℕ) → Doing rules w fact count old [] steps written
-        → Guarded (ground_of w.scope) fact.from (take count steps) fact.to × Derives rules fact.symbol (word w.scope.model.now (take count steps)) × (drop count steps ≡ drop count old)
+        → Guarded (ground_of w.scope) fact.from (take count steps) fact.to × Derives rules fact.symbol (word w.scope.ground.now.model (take count steps)) × (drop count steps ≡ drop count old)
     doing_end steps written d =
         let e : written ≡ count = omega (arith, d.sum, d.next.1) in (
           subst (λ y. Guarded (ground_of w.scope) fact.from (take y steps) fact.to) e (subst (Guarded (ground_of w.scope) fact.from (take written steps)) d.next.0 d.path),
-          subst (λ y. Derives rules fact.symbol (word w.scope.model.now (take y steps))) e (subst (Derives rules fact.symbol) (append-nil (word w.scope.model.now (take written steps))) (d.gives [] refl)),
+          subst (λ y. Derives rules fact.symbol (word w.scope.ground.now.model (take y steps))) e (subst (Derives rules fact.symbol) (append-nil (word w.scope.ground.now.model (take written steps))) (d.gives [] refl)),
           d.others,
         )
 
@@ -124,11 +124,11 @@ module _ (rules : List Rule) (w : Table) where
         go i j pos many z sum (Both B u C) (i₁, i₂, p₁, p₂, iz, k₁, k₂, der) = (omega arith, omega arith, omega arith)
 
   -- a fact of no steps
-  pub zero_path : Sound rules w → (f : Fact) (n : ℕ) (steps : List Step) → n ≡ 0 → Known w (triple f) n → Guarded (ground_of w.scope) f.from (take n steps) f.to × Derives rules f.symbol (word w.scope.model.now (take n steps))
+  pub zero_path : Sound rules w → (f : Fact) (n : ℕ) (steps : List Step) → n ≡ 0 → Known w (triple f) n → Guarded (ground_of w.scope) f.from (take n steps) f.to × Derives rules f.symbol (word w.scope.ground.now.model (take n steps))
   zero_path sound f n steps z kn =
       let (path, g, d, len) = sound (triple f) n kn in
       let e : path ≡ take n steps = empty path (omega arith) ∙ sym (ap (λ y. take y steps) z) in
-      (subst (λ y. Guarded (ground_of w.scope) f.from y f.to) e g, subst (λ y. Derives rules f.symbol (word w.scope.model.now y)) e d)
+      (subst (λ y. Guarded (ground_of w.scope) f.from y f.to) e g, subst (λ y. Derives rules f.symbol (word w.scope.ground.now.model y)) e d)
     where
       empty : (path : List Step) → length path ≡ 0 → path ≡ []
       empty [] l = refl

@@ -1,41 +1,23 @@
 -- The nearest state of the goal, and what it says of all good paths.
-use Rattle.std.proofs.Common.{◌≡◌, ℕ, ◌+◌, ◌-◌, ◌*◌, ◌<◌, ◌≤◌, Bool, true, false, List, [], ◌∷◌, length, Some, None, Option, Result, sym, refl, ap, ◌∙◌, subst, arith, MatchResult}
+use Rattle.std.proofs.Common.{◌≡◌, ℕ, ◌+◌, ◌-◌, ◌<◌, ◌≤◌, Bool, true, false, List, length, Some, None, Option, Result, refl, ap, subst, arith, MatchResult}
 use native.Mathlib.Decide.{dec_lt}
 use Rattle.std.specs.Option.{ok_or}
 use Rattle.model.specs.declared.edge.Step.{Step}
-use Rattle.model.specs.declared.model.Model.{Model}
 use Rattle.model.specs.declared.number_set.NumberSet.{NumberSet}
-use Rattle.model.specs.Models.{HasEdge}
 use Rattle.model.specs.Sets.{Has}
 use Rattle.model.specs.declared.refusal.Refusal.{Refusal}
 use Rattle.model.specs.declared.refusal.Refusal.TheVariants.{PathTooLong}
 use Rattle.language.specs.declared.rule.Rule.{Rule}
 use Rattle.language.specs.Rules.{RulesWithin}
 use Rattle.language.specs.Derivations.{Derives}
-use Rattle.logic.specs.Paths.{edge, Chain, Before, end, word}
-use Rattle.logic.specs.Facts.{Triple, Ground, ground, Guarded}
-use Rattle.least.specs.declared.scope.Scope.{Scope}
+use Rattle.logic.specs.Paths.{end}
+use Rattle.logic.specs.Facts.{Triple}
 use Rattle.least.specs.declared.table.Table.{Table}
 use Rattle.least.specs.Entries.{ground_of, In, entry_of, AtMost, Sound, Closed}
 use Rattle.least.specs.Lowering.{Run, weight}
-use Rattle.least.proofs.Walking.{guarded_end, edge_inside}
+use Rattle.logic.proofs.GuardedPaths.{guarded_end, good_guarded}
 use Rattle.least.proofs.Least.{least}
 use Rattle.path.specs.Witnesses.{GoodFor, Nearest, Far, Best}
-
--- a good path is a guarded one, and back
-pub good_guarded : (g : Ground) (s : ℕ) (p : List Step) → s < g.model.states → Chain g.model s p → Before (Has g.guard) s p → Guarded g s p (end s p)
-good_guarded g s [] l c b = (l, refl)
-good_guarded g s (x ∷ p) l c b = (b.0, c.0, good_guarded g x.state p (inside g.model c.0) c.1 b.1)
-  where
-    inside : (m : Model) → HasEdge m (edge s x) → x.state < m.states
-    inside m e∈ = (edge_inside m _ e∈).2
-
-guarded_chain : (g : Ground) (s t : ℕ) (p : List Step) → Guarded g s p t → Chain g.model s p × Before (Has g.guard) s p × (end s p ≡ t)
-guarded_chain g s t [] h = (tt, tt, h.1)
-guarded_chain g s t (x ∷ p) h = let (c, b, e) = guarded_chain g x.state t p h.2 in ((h.1, c), (h.0, b), e)
-
-pub guarded_good : (g : Ground) (goal : NumberSet) (rules : List Rule) (s t : ℕ) (p : List Step) → Guarded g s p t → Has goal t → Derives rules 0 (word g.model p) → GoodFor g.model g.guard goal rules s p
-guarded_good g goal rules s t p h ends d = let (c, b, e) = guarded_chain g s t p h in record { path = c; guarded = b; ends = subst (Has goal) (sym e) ends; spells = d }
 
 module _ (w : Table) (goal : NumberSet) (s top : ℕ) where
   -- a state more that is not near
@@ -74,19 +56,19 @@ module _ (w : Table) (goal : NumberSet) (s top : ℕ) where
 
 module _ (rules : List Rule) (w : Table) (in_rules : RulesWithin w.scope.symbols rules) (goal : NumberSet) (s top : ℕ) (inside : s < w.scope.states) (closed : Closed rules top w) where
   -- a good path that is shorter than the top has an entry
-  goal_entry : (p : List Step) → GoodFor w.scope.model.now w.scope.guard goal rules s p → length p < top → (end s p < w.scope.states) × AtMost (length p) (entry_of w (0, s, end s p))
+  goal_entry : (p : List Step) → GoodFor w.scope.ground.now.model w.scope.ground.now.guard goal rules s p → length p < top → (end s p < w.scope.states) × AtMost (length p) (entry_of w (0, s, end s p))
   goal_entry p good l =
-      let g = good_guarded (ground_of w.scope) s p (omega (arith, w.scope.its_states)) good.path good.guarded in
+      let g = good_guarded (ground_of w.scope) (Has goal) (Derives rules 0) s p (omega (arith, w.scope.its_states)) good in
       (omega (arith, w.scope.its_states, guarded_end (ground_of w.scope) s (end s p) p g), least w rules top in_rules closed good.spells.0 (0, s, end s p) (length p) l (p, g, good.spells.1, refl))
 
-  pub far_long : Far w goal s top w.scope.states → (p : List Step) → GoodFor w.scope.model.now w.scope.guard goal rules s p → top ≤ length p
+  pub far_long : Far w goal s top w.scope.states → (p : List Step) → GoodFor w.scope.ground.now.model w.scope.ground.now.guard goal rules s p → top ≤ length p
   far_long far p good = elim (dec_lt (length p) top) [
     | no n ↦ omega arith
     | yes l ↦
         (let (e, a) = goal_entry p good l in absurd (omega (arith, a.low, far (end s p) e good.ends a.some)))
   ]
 
-  pub near_least : (t : ℕ) → Nearest w goal s top w.scope.states t → (p : List Step) → GoodFor w.scope.model.now w.scope.guard goal rules s p → entry_of w (0, s, t) - 1 ≤ length p
+  pub near_least : (t : ℕ) → Nearest w goal s top w.scope.states t → (p : List Step) → GoodFor w.scope.ground.now.model w.scope.ground.now.guard goal rules s p → entry_of w (0, s, t) - 1 ≤ length p
   near_least t near p good = elim (dec_lt (length p) top) [
     | no n ↦ omega (arith, near.low)
     | yes l ↦
@@ -102,14 +84,6 @@ pub found_either : (rules : List Rule) (w : Table) (goal : NumberSet) (s top : �
     → MatchResult r (λ to. (level : ℕ) × (level ≤ top) × Closed rules level w × Nearest w goal s level w.scope.states to) (λ refusal. (refusal ≡ PathTooLong) × Closed rules top w × Far w goal s top w.scope.states)
 found_either rules w goal s top None r e closed best = rw e (refl, closed, best)
 found_either rules w goal s top (Some t) r e closed best = rw e (top, omega arith, closed, best)
-
--- a scope over a model and a guard
-pub states_of_ground : (c : Scope) (m : Model) (guard : NumberSet) → ground_of c ≡ ground m guard → c.states ≡ m.states
-states_of_ground c m guard e = c.its_states ∙ ap (λ (g : Ground). g.model.states) e
-
--- a table that is long enough for a model and so many symbols is so for its scope
-pub cells_fit : (c : Scope) (m : Model) (guard : NumberSet) (k long : ℕ) → ground_of c ≡ ground m guard → c.symbols ≡ k → k * m.states * m.states ≤ long → c.symbols * c.states * c.states ≤ long
-cells_fit c m guard k long e is l = subst (λ n. n * c.states * c.states ≤ long) (sym is) (subst (λ n. k * n * n ≤ long) (sym (states_of_ground c m guard e)) l)
 
 -- a run never makes the table heavier
 pub lighter : (rules : List Rule) (Shut : Table → Type 0) (a b : Table) (x : Bool) → Run rules Shut a b x → weight b.entries.now ≤ weight a.entries.now

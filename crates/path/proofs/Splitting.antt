@@ -17,7 +17,8 @@ use Rattle.logic.specs.Facts.{Triple, Guarded}
 use Rattle.least.specs.declared.table.Table.{Table}
 use Rattle.least.specs.Walks.{WalkWithin, GivesIn}
 use Rattle.least.specs.Entries.{ground_of, entry_of, In, Known, Sound, Closed}
-use Rattle.least.proofs.Walking.{walk_to, derives_lead, derives_same, derives_pair}
+use Rattle.language.proofs.Heights.{by_lead, by_same, by_pair}
+use Rattle.least.proofs.Walking.{walk_to}
 use Rattle.least.proofs.Least.{least_known}
 use Rattle.path.specs.declared.split.Split.{Split}
 use Rattle.path.specs.declared.split.Split.TheVariants.{Last, Onward, Both}
@@ -28,45 +29,38 @@ use Rattle.path.specs.Reaching.{Keeps, Reached, ReachShut, NoShorter}
 pub still : (rules : List Rule) (w : Table) → Sound rules w → (p : Triple) → Known w p 0 → (p.1 ≡ p.2) × Derives rules p.0 []
 still rules w sound p kn = let (path, g, d, len) = sound p 0 kn in go path g d len
   where
-    go : (path : List Step) → Guarded (ground_of w.scope) p.1 path p.2 → Derives rules p.0 (word w.scope.model.now path) → length path ≡ 0 → (p.1 ≡ p.2) × Derives rules p.0 []
+    go : (path : List Step) → Guarded (ground_of w.scope) p.1 path p.2 → Derives rules p.0 (word w.scope.ground.now.model path) → length path ≡ 0 → (p.1 ≡ p.2) × Derives rules p.0 []
     go [] g d len = (g.1, d)
     go (x ∷ path) g d len = absurd (omega arith)
 
 module _ (rules : List Rule) (w : Table) where
-  pub letter_last : (H a s t n : ℕ) (e : Edge) → Among (Letter H a) rules → n ≡ 1 → HasEdge w.scope.model.now e → StepsBy w.scope.guard a s t e → Splits rules w (record { symbol = H; from = s; to = t }) n (Last a t)
+  pub letter_last : (H a s t n : ℕ) (e : Edge) → Among (Letter H a) rules → n ≡ 1 → HasEdge w.scope.ground.now.model e → StepsBy w.scope.ground.now.guard a s t e → Splits rules w (record { symbol = H; from = s; to = t }) n (Last a t)
   letter_last H a s t n e r∈ z e∈ (f, ea, et, g) = (z, refl, e, (e∈, f, ea, g), et, (1, (_, r∈, (refl, refl))))
 
-  pub lead_last : (H a B s t via n : ℕ) (e : Edge) → Sound rules w → Among (Lead H a B) rules → n ≡ 1 → HasEdge w.scope.model.now e → StepsBy w.scope.guard a s via e → In w.scope (B, via, t) → entry_of w (B, via, t) ≡ 1
+  pub lead_last : (H a B s t via n : ℕ) (e : Edge) → Sound rules w → Among (Lead H a B) rules → n ≡ 1 → HasEdge w.scope.ground.now.model e → StepsBy w.scope.ground.now.guard a s via e → In w.scope (B, via, t) → entry_of w (B, via, t) ≡ 1
       → Splits rules w (record { symbol = H; from = s; to = t }) n (Last a t)
   lead_last H a B s t via n e sound r∈ z e∈ (f, ea, et, g) i is =
       let both = still rules w sound (B, via, t) (record { there = i; is = omega arith }) in
-      (z, refl, e, (e∈, f, ea, g), et ∙ both.0, derives_lead rules H a B [] r∈ both.1)
+      (z, refl, e, (e∈, f, ea, g), et ∙ both.0, by_lead rules H a B [] r∈ both.1)
 
-  pub lead_onward : (H a B s t via n : ℕ) (e : Edge) → Among (Lead H a B) rules → 1 < n → HasEdge w.scope.model.now e → StepsBy w.scope.guard a s via e → In w.scope (B, via, t) → entry_of w (B, via, t) ≡ n
+  pub lead_onward : (H a B s t via n : ℕ) (e : Edge) → Among (Lead H a B) rules → 1 < n → HasEdge w.scope.ground.now.model e → StepsBy w.scope.ground.now.guard a s via e → In w.scope (B, via, t) → entry_of w (B, via, t) ≡ n
       → Splits rules w (record { symbol = H; from = s; to = t }) n (Onward a via B)
   lead_onward H a B s t via n e r∈ l e∈ (f, ea, et, g) i is =
-      (e, (e∈, f, ea, g), et, n - 1, omega arith, omega arith, record { there = i; is = omega arith }, λ v d. derives_lead rules H a B v r∈ d)
+      (e, (e∈, f, ea, g), et, n - 1, omega arith, omega arith, record { there = i; is = omega arith }, λ v d. by_lead rules H a B v r∈ d)
 
   pub pair_both : (H B C s t u n : ℕ) → Among (Pair H B C) rules → In w.scope (B, s, u) → In w.scope (C, u, t) → Sums w B C s t (n + 1) u → Splits rules w (record { symbol = H; from = s; to = t }) n (Both B u C)
   pair_both H B C s t u n r∈ i₁ i₂ (a, b, d) =
       let e₁ = entry_of w (B, s, u) in
-      (e₁ - 1, n + 1 - e₁, omega arith, omega arith, omega arith, record { there = i₁; is = omega arith }, record { there = i₂; is = omega arith }, λ v x d₁ d₂. derives_pair rules H B C v x r∈ d₁ d₂)
+      (e₁ - 1, n + 1 - e₁, omega arith, omega arith, omega arith, record { there = i₁; is = omega arith }, record { there = i₂; is = omega arith }, λ v x d₁ d₂. by_pair rules H B C v x r∈ d₁ d₂)
 
-  pub letter_not : (H a s t n : ℕ) → ((e : Edge) × HasEdge w.scope.model.now e × StepsBy w.scope.guard a s t e → ⊥) → GivesIn (ground_of w.scope) (Letter H a) (Less w n) (Less w n) (H, s, t) n → ⊥
+  pub letter_not : (H a s t n : ℕ) → ((e : Edge) × HasEdge w.scope.ground.now.model e × StepsBy w.scope.ground.now.guard a s t e → ⊥) → GivesIn (ground_of w.scope) (Letter H a) (Less w n) (Less w n) (H, s, t) n → ⊥
   letter_not H a s t n none (x, e, (e∈, f, ea, g), et, z) = none (e, e∈, (f, ea, sym et, g))
 
-  pub lead_not : (H a B s t n : ℕ) → ((e : Edge) → HasEdge w.scope.model.now e → StepsBy w.scope.guard a s e.to e → entry_of w (B, e.to, t) ≡ n → ⊥) → GivesIn (ground_of w.scope) (Lead H a B) (Less w n) (Less w n) (H, s, t) n → ⊥
+  pub lead_not : (H a B s t n : ℕ) → ((e : Edge) → HasEdge w.scope.ground.now.model e → StepsBy w.scope.ground.now.guard a s e.to e → entry_of w (B, e.to, t) ≡ n → ⊥) → GivesIn (ground_of w.scope) (Lead H a B) (Less w n) (Less w n) (H, s, t) n → ⊥
   lead_not H a B s t n none (x, e, (e∈, f, ea, g), j, (kn, l), z) = none e e∈ (f, ea, refl, g) (kn.is ∙ sym z)
 
   pub pair_not : (H B C s t n : ℕ) → ((u : ℕ) → u < w.scope.states → Sums w B C s t (n + 1) u → ⊥) → GivesIn (ground_of w.scope) (Pair H B C) (Less w n) (Less w n) (H, s, t) n → ⊥
   pair_not H B C s t n none (x, u, i, j, (k₁, l₁), (k₂, l₂), z) = none u k₁.there.to (omega (arith, k₁.is), omega (arith, k₁.is), omega (arith, k₁.is, k₂.is))
-
-pub head_in : (k : ℕ) (r : Rule) → SymbolsBelow k r → head_of r < k
-head_in k (Empty H) w = w
-head_in k (Letter H a) w = w
-head_in k (Lead H a B) w = w.0
-head_in k (Same H B) w = w.0
-head_in k (Pair H B C) w = w.0
 
 module _ (rules : List Rule) (w : Table) (sound : Sound rules w) (s t : ℕ) (ls : s < w.scope.states) (lt : t < w.scope.states) where
   -- what a rule keeps
@@ -75,13 +69,13 @@ module _ (rules : List Rule) (w : Table) (sound : Sound rules w) (s t : ℕ) (ls
   keeps_derives e (Letter H a) y r∈ wi d = absurd d
   keeps_derives e (Lead H a B) y r∈ wi d = absurd d
   keeps_derives e (Same H B) y r∈ wi (q, is) =
-      (subst (λ z. z < w.scope.symbols) (sym q) wi.1, subst (λ z. entry_of w (z, s, t) ≡ e) (sym q) is, λ v d. derives_same rules H B v r∈ (subst (λ z. Derives rules z v) q d))
+      (subst (λ z. z < w.scope.symbols) (sym q) wi.1, subst (λ z. entry_of w (z, s, t) ≡ e) (sym q) is, λ v d. by_same rules H B v r∈ (subst (λ z. Derives rules z v) q d))
   keeps_derives e (Pair H B C) y r∈ wi (inl (q, z, is)) =
       let empty = (still rules w sound (B, s, s) (record { there = record { symbol = wi.1; from = ls; to = ls }; is = omega arith })).1 in
-      (subst (λ z. z < w.scope.symbols) (sym q) wi.2, subst (λ z. entry_of w (z, s, t) ≡ e) (sym q) is, λ v d. derives_pair rules H B C [] v r∈ empty (subst (λ z. Derives rules z v) q d))
+      (subst (λ z. z < w.scope.symbols) (sym q) wi.2, subst (λ z. entry_of w (z, s, t) ≡ e) (sym q) is, λ v d. by_pair rules H B C [] v r∈ empty (subst (λ z. Derives rules z v) q d))
   keeps_derives e (Pair H B C) y r∈ wi (inr (q, z, is)) =
       let empty = (still rules w sound (C, t, t) (record { there = record { symbol = wi.2; from = lt; to = lt }; is = omega arith })).1 in
-      (subst (λ z. z < w.scope.symbols) (sym q) wi.1, subst (λ z. entry_of w (z, s, t) ≡ e) (sym q) is, λ v d. subst (Derives rules H) (append-nil v) (derives_pair rules H B C v [] r∈ (subst (λ z. Derives rules z v) q d) empty))
+      (subst (λ z. z < w.scope.symbols) (sym q) wi.1, subst (λ z. entry_of w (z, s, t) ≡ e) (sym q) is, λ v d. subst (Derives rules H) (append-nil v) (by_pair rules H B C v [] r∈ (subst (λ z. Derives rules z v) q d) empty))
 
   pub reached_more : (e X : ℕ) (mask more : NumberSet) → RulesWithin w.scope.symbols rules → Reached rules w s t e X mask
       → Joined (Has mask) (Has more) (BySome (λ x y. Has mask (head_of x) × Keeps w s t e x y) rules) → Reached rules w s t e X more

@@ -11,7 +11,8 @@ ghost use Rattle.path.specs.Witnesses.{SomeGoodFor, Shows, Nearest, Far, Best};
 use crate::unfolding::unfold;
 use language::{Fitting, UntilLanguage};
 use least::{Band, Fact, Scope, Table};
-use model::{Model, NumberSet, Refusal, Step};
+use logic::GuardedModel;
+use model::{NumberSet, Refusal, Step};
 
 // Where a path is to start, and where it may end.
 #[derive(Clone, Copy, PartialEq, Eq, Debug)]
@@ -183,8 +184,7 @@ fn sought<L: UntilLanguage>(
 // The sheet calls it, with the set of all states that have such a path, and sees to it that language, state and lent memory are as asked.
 pub fn shortest<L: UntilLanguage>(
     language: &Fitting<L>,
-    model: &Model,
-    guard: NumberSet,
+    ground: &GuardedModel,
     goal: NumberSet,
     satisfying: NumberSet,
     state: u8,
@@ -192,16 +192,16 @@ pub fn shortest<L: UntilLanguage>(
     waiting: &mut [Fact],
     steps: &mut [Step],
 ) -> Result<Option<usize>, Refusal>
-    requires state { state < model.now.states }
-    requires work { L.symbols language.now * model.now.states * model.now.states ≤ length work.old }
+    requires state { state < ground.now.model.states }
+    requires work { L.symbols language.now * ground.now.model.states * ground.now.model.states ≤ length work.old }
     requires waiting { length steps.old ≤ length waiting.old }
-    requires marks { Exactly (Has satisfying) (λ s. (s < model.now.states) × SomeGoodFor model.now guard goal (L.rules language.now) s) }
-    ensures { Shows model.now guard goal (L.rules language.now) state (min (length steps.old) 4096) steps.old steps.new result }
+    requires marks { Exactly (Has satisfying) (λ s. (s < ground.now.model.states) × SomeGoodFor ground.now.model ground.now.guard goal (L.rules language.now) s) }
+    ensures { Shows ground.now.model ground.now.guard goal (L.rules language.now) state (min (length steps.old) 4096) steps.old steps.new result }
 {
     if !satisfying.has(state) {
         return Ok(None);
     }
-    let scope = Scope::new(model, guard, language.symbols());
+    let scope = Scope::new(ground, language.symbols());
     let mut table = Table::empty(scope, work);
     let top = steps.len().min(4096) as u16 + 1;
     let to = sought(&mut table, language, top, Aim { state, goal })?;

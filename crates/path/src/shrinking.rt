@@ -17,14 +17,14 @@ use model::Edge;
 
 // Whether the edge leads from one state to the other with the action, and the guard holds at the first.
 fn steps_by(table: &Table, edge: Edge, action: u8, from: u8, to: u8) -> bool
-    ensures { Decides result (StepsBy table.now.scope.guard action from to edge) }
+    ensures { Decides result (StepsBy table.now.scope.ground.now.guard action from to edge) }
 {
-    edge.from == from && edge.action == action && edge.to == to && table.guard().has(edge.from)
+    edge.from == from && edge.action == action && edge.to == to && table.admits(edge.from)
 }
 
 // Whether some edge does.
 fn steps_to(table: &Table, action: u8, from: u8, to: u8) -> bool
-    ensures { Decides result ((e : EdgeOf) × HasEdge table.now.scope.model.now e × StepsBy table.now.scope.guard action from to e) }
+    ensures { Decides result ((e : EdgeOf) × HasEdge table.now.scope.ground.now.model e × StepsBy table.now.scope.ground.now.guard action from to e) }
 {
     for edge in table.edges() {
         if steps_by(table, *edge, action, from, to) {
@@ -36,10 +36,10 @@ fn steps_to(table: &Table, action: u8, from: u8, to: u8) -> bool
 
 // Whether the edge leads with the action to a state from which the rest has one step less.
 fn steps_on_by(table: &Table, edge: Edge, action: u8, rest: u8, span: Span) -> bool
-    requires edge { HasEdge table.now.scope.model.now edge }
+    requires edge { HasEdge table.now.scope.ground.now.model edge }
     requires rest { In table.now.scope (rest, span.from, span.to) }
     requires worth { 1 < span.worth }
-    ensures { Decides result (StepsBy table.now.scope.guard action span.from edge.to edge × (entry_of table.now (rest, edge.to, span.to) ≡ span.worth - 1)) }
+    ensures { Decides result (StepsBy table.now.scope.ground.now.guard action span.from edge.to edge × (entry_of table.now (rest, edge.to, span.to) ≡ span.worth - 1)) }
 {
     let part = table.entry(Fact {
         symbol: rest,
@@ -53,7 +53,7 @@ fn steps_on_by(table: &Table, edge: Edge, action: u8, rest: u8, span: Span) -> b
 fn steps_on(table: &Table, action: u8, rest: u8, span: Span) -> Option<u8>
     requires rest { In table.now.scope (rest, span.from, span.to) }
     requires worth { 1 < span.worth }
-    ensures { MatchOption result ((e : EdgeOf) → HasEdge table.now.scope.model.now e → StepsBy table.now.scope.guard action span.from e.to e → entry_of table.now (rest, e.to, span.to) ≢ span.worth - 1) (λ via. (e : EdgeOf) × HasEdge table.now.scope.model.now e × StepsBy table.now.scope.guard action span.from via e × (entry_of table.now (rest, via, span.to) ≡ span.worth - 1)) }
+    ensures { MatchOption result ((e : EdgeOf) → HasEdge table.now.scope.ground.now.model e → StepsBy table.now.scope.ground.now.guard action span.from e.to e → entry_of table.now (rest, e.to, span.to) ≢ span.worth - 1) (λ via. (e : EdgeOf) × HasEdge table.now.scope.ground.now.model e × StepsBy table.now.scope.ground.now.guard action span.from via e × (entry_of table.now (rest, via, span.to) ≡ span.worth - 1)) }
 {
     for edge in table.edges() {
         if steps_on_by(table, *edge, action, rest, span) {

@@ -22,9 +22,9 @@ pub(crate) struct Leading {
 impl Table<'_> {
     // By the edge and then the fact of the rest to the state, if its entry lies in the band.
     fn lead_to(&mut self, top: u16, band: Band, lead: Leading, edge: Edge, to: u8) -> bool
-        requires edge { HasEdge self.old.scope.model.now edge }
+        requires edge { HasEdge self.old.scope.ground.now.model edge }
         requires action { edge.action ≡ lead.action }
-        requires guarded { Has self.old.scope.guard edge.from }
+        requires guarded { Has self.old.scope.ground.now.guard edge.from }
         requires rest { In self.old.scope (lead.rest, edge.to, to) }
         requires head { lead.head < self.old.scope.symbols }
         ensures { Always (Lead lead.head lead.action lead.rest) (LedIn top band.low band.high lead.head lead.action lead.rest edge to) self.old self.new result }
@@ -48,12 +48,12 @@ impl Table<'_> {
 
     // By the edge, if it has the action and the guard holds where it starts.
     fn lead_along(&mut self, top: u16, band: Band, lead: Leading, edge: Edge) -> bool
-        requires edge { HasEdge self.old.scope.model.now edge }
+        requires edge { HasEdge self.old.scope.ground.now.model edge }
         requires head { lead.head < self.old.scope.symbols }
         requires rest { lead.rest < self.old.scope.symbols }
         ensures { Always (Lead lead.head lead.action lead.rest) (LedAlong top band.low band.high lead.head lead.action lead.rest edge) self.old self.new result }
     {
-        if edge.action != lead.action || !self.guard().has(edge.from) {
+        if edge.action != lead.action || !self.admits(edge.from) {
             return false;
         }
         let mut fell = false;

@@ -1,12 +1,13 @@
-ghost use Rattle.std.specs.Prelude.{◌≡◌, ◌*◌, ◌≤◌, length};
+ghost use Rattle.std.specs.Prelude.{◌≡◌, ◌*◌, ◌≤◌, length, Decides};
 ghost use Rattle.model.specs.Models.{edges_of};
+ghost use Rattle.model.specs.Sets.{Has};
 ghost use Rattle.logic.specs.Facts.{Triple};
-ghost use Rattle.least.specs.Entries.{triple, place as cell_of, entry_of, In};
+ghost use Rattle.least.specs.Entries.{triple, place, entry_of, In};
 
 use crate::fact::Fact;
 use crate::scope::Scope;
 use crate::table::Table;
-use model::{Edge, NumberSet};
+use model::Edge;
 
 impl<'a> Table<'a> {
     // A table over lent memory, in which no fact has an entry.
@@ -26,16 +27,16 @@ impl<'a> Table<'a> {
         self.scope.states()
     }
 
-    // The states at which the guard holds.
-    pub fn guard(&self) -> NumberSet
-        ensures { result ≡ self.now.scope.guard }
+    // Whether the guard holds at the state.
+    pub fn admits(&self, state: u8) -> bool
+        ensures { Decides result (Has self.now.scope.ground.now.guard state) }
     {
-        self.scope.guard()
+        self.scope.admits(state)
     }
 
     // The edges of the model.
     pub fn edges(&self) -> &'a [Edge]
-        ensures { result.now ≡ edges_of self.now.scope.model.now }
+        ensures { result.now ≡ edges_of self.now.scope.ground.now.model }
     {
         self.scope.edges()
     }
@@ -43,7 +44,7 @@ impl<'a> Table<'a> {
     // Where the entry of a fact stands.
     pub(crate) fn cell(&self, fact: Fact) -> usize
         requires { In self.now.scope (triple fact) }
-        ensures { result ≡ cell_of self.now.scope.states (triple fact) }
+        ensures { result ≡ place self.now.scope.states (triple fact) }
     {
         self.scope.cell(fact)
     }

@@ -14,10 +14,10 @@ impl Table<'_> {
     // By the edge alone.
     fn letter_by(&mut self, top: u16, head: u8, action: u8, edge: Edge) -> bool
         requires head { head < self.old.scope.symbols }
-        requires edge { HasEdge self.old.scope.model.now edge }
+        requires edge { HasEdge self.old.scope.ground.now.model edge }
         ensures { Always (Letter head action) (LetterAt top head action edge) self.old self.new result }
     {
-        if edge.action == action && self.guard().has(edge.from) {
+        if edge.action == action && self.admits(edge.from) {
             let cell = self.cell(Fact {
                 symbol: head,
                 from: edge.from,

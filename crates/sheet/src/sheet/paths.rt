@@ -40,7 +40,7 @@ impl Sheet<'_> {
         let guarded = GuardedModel::of(self.model, holds);
         let some = satisfying(&fitting, &guarded, reached, work);
         shortest(
-            &fitting, self.model, holds, reached, some, state, work, waiting, steps,
+            &fitting, &guarded, reached, some, state, work, waiting, steps,
         )
     }
 }

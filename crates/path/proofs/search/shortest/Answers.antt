@@ -1,11 +1,14 @@
 use Rattle.std.proofs.Common.{◌≡◌, ◌-◌, ◌<◌, take, sym, refl, ap, ◌∙◌, subst, arith}
 use Rattle.std.proofs.lemmas.Result.{err_from_is_err_and}
-use Rattle.logic.specs.Facts.{Ground, ground}
+use Rattle.model.specs.Sets.{Has}
+use Rattle.language.specs.Derivations.{Derives}
 use Rattle.language.specs.Rules.{RulesWithin}
+use Rattle.logic.specs.Facts.{Ground}
+use Rattle.logic.proofs.GuardedPaths.{guarded_good}
 use Rattle.least.specs.Entries.{ground_of}
 use Rattle.least.specs.declared.scope.Scope.{Scope}
 use Rattle.path.specs.Witnesses.{GoodFor}
-use Rattle.path.proofs.Nearest.{guarded_good, far_long, near_least, states_of_ground}
+use Rattle.path.proofs.Nearest.{far_long, near_least}
 use Rattle.path.proofs.search.shortest.Goals as goal
 
 pub returns-in_err-to : goal.returns-in_err-to
@@ -13,11 +16,11 @@ returns-in_err-to g c =
     let rules = g.L.UntilLanguage.rules c.args.language.now in
     let w = c.sought.new.table in
     let scope = c.sought.ensures.same ∙ c.empty-table.ensures.scope in
-    let e : ground_of w.scope ≡ ground c.args.model.now c.args.guard = ap ground_of scope ∙ c.new-scope.ensures.ground in
+    let e : ground_of w.scope ≡ c.args.ground.now = ap ground_of scope ∙ c.new-scope.ensures.ground in
     let symbols : w.scope.symbols ≡ g.L.UntilLanguage.symbols c.args.language.now = ap (λ (z : Scope). z.symbols) scope ∙ c.new-scope.ensures.symbols ∙ c.symbols.ensures.count in
     let limits = c.symbols.ensures.limits in
     let in_rules = subst (λ k. RulesWithin k rules) (sym symbols) (g.met.L.UntilLanguage.symbols_known _ limits.few_symbols limits.few_rules) in
-    let inside : c.args.state < w.scope.states = omega (arith, states_of_ground w.scope _ _ e, c.requires.state) in
+    let inside : c.args.state < w.scope.states = omega (arith, w.scope.its_states, ap (λ (h : Ground). h.model.states) e, c.requires.state) in
     let p = err_from_is_err_and c.from_residual.result c.from_residual.ensures.1 in
     let (is, closed, far) = c.in_err-to.ensures.found in rw (p.1, p.2) (
       is,
@@ -31,16 +34,16 @@ returns g c =
     let rules = g.L.UntilLanguage.rules c.args.language.now in
     let w = c.sought.new.table in
     let scope = c.sought.ensures.same ∙ c.empty-table.ensures.scope in
-    let e : ground_of w.scope ≡ ground c.args.model.now c.args.guard = ap ground_of scope ∙ c.new-scope.ensures.ground in
+    let e : ground_of w.scope ≡ c.args.ground.now = ap ground_of scope ∙ c.new-scope.ensures.ground in
     let symbols : w.scope.symbols ≡ g.L.UntilLanguage.symbols c.args.language.now = ap (λ (z : Scope). z.symbols) scope ∙ c.new-scope.ensures.symbols ∙ c.symbols.ensures.count in
     let limits = c.symbols.ensures.limits in
     let in_rules = subst (λ k. RulesWithin k rules) (sym symbols) (g.met.L.UntilLanguage.symbols_known _ limits.few_symbols limits.few_rules) in
-    let inside : c.args.state < w.scope.states = omega (arith, states_of_ground w.scope _ _ e, c.requires.state) in
+    let inside : c.args.state < w.scope.states = omega (arith, w.scope.its_states, ap (λ (h : Ground). h.model.states) e, c.requires.state) in
     let (level, low, closed, near) = c.in_ok-to.ensures.found in
     let count = c.entry.result - 1 in (
       omega (arith, c.entry.ensures, near.low, low, c.min.ensures),
       subst (λ (h : Ground). GoodFor h.model h.guard c.args.goal rules c.args.state (take count c.unfold.new.steps)) e
-          (guarded_good (ground_of w.scope) c.args.goal rules c.args.state c.in_ok-to.to (take count c.unfold.new.steps) c.unfold.ensures.guarded near.ends c.unfold.ensures.derived),
+          (guarded_good (ground_of w.scope) (Has c.args.goal) (Derives rules 0) c.args.state c.in_ok-to.to (take count c.unfold.new.steps) c.unfold.ensures.guarded near.ends c.unfold.ensures.derived),
       (λ p good. omega (arith, c.entry.ensures, near_least rules w in_rules c.args.goal c.args.state level inside closed c.in_ok-to.to near p (subst (λ (h : Ground). GoodFor h.model h.guard c.args.goal rules c.args.state p) (sym e) good))),
       c.unfold.ensures.others,
       c.unfold.auto.steps,

@@ -1,8 +1,7 @@
 use Rattle.std.proofs.Common.{◌≡◌, ◌+◌, sym, ◌∙◌, subst, ⊎_elim}
 use Rattle.model.specs.Relations.{Among}
 use Rattle.language.specs.Rules.{head_of, SymbolsBelow, RulesWithin}
-use Rattle.language.proofs.Coming.{coming_among, among_last}
-use Rattle.least.proofs.Runs.{all_came}
+use Rattle.language.proofs.Coming.{coming_among, all_came, among_last}
 use Rattle.path.specs.Reaching.{Reached, ReachShut, NoShorter}
 use Rattle.path.proofs.Splitting.{stuck, splits_from}
 use Rattle.path.proofs.unfolding.split.Goals as goal
@@ -36,5 +35,5 @@ unreachable-requires g c =
     stuck rules c.args.table.now c.requires.sound _ _ kn.there.from kn.there.to top n _ _ pos low (subst (λ k. RulesWithin k rules) (sym c.requires.symbols) given.named) closed
     (subst (λ z. Reached rules c.args.table.now c.args.fact.from c.args.fact.to z c.args.fact.symbol c.reach-mask.result) e c.reach-mask.ensures.reached)
     (subst (λ z. ReachShut rules c.args.table.now c.args.fact.from c.args.fact.to z c.reach-mask.result) e c.reach-mask.ensures.shut)
-    (λ r r∈. subst (λ z. NoShorter c.args.table.now c.args.fact.from c.args.fact.to z c.reach-mask.result r) e (c.loop-rule.invariant r (subst (Among r) all r∈)))
+    (λ r r∈. subst (λ z. NoShorter c.args.table.now c.args.fact.from c.args.fact.to z c.reach-mask.result r) e (c.loop-rule.invariant r (subst (Among r) (sym all) r∈)))
     d.0 _ c.reach-mask.ensures.reached.first (path, gu, d.1, len)

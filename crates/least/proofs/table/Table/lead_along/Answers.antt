@@ -1,5 +1,4 @@
 use Rattle.std.proofs.Common.{◌<◌, sym, refl, subst, arith}
-use Rattle.model.specs.declared.number_set.NumberSet.{NumberSet}
 use Rattle.model.specs.Sets.{Has}
 use Rattle.least.specs.declared.scope.Scope.{Scope}
 use Rattle.least.proofs.Runs.{run_like, run_more, same_scope}
@@ -11,7 +10,7 @@ lead_to-fell-requires-clause-edge c = edge_at c.args.self.now.scope c.loop-to.se
 
 pub lead_to-fell-requires-clause-guarded : goal.lead_to-fell-requires-clause-guarded
 lead_to-fell-requires-clause-guarded c =
-    subst (λ (z : Scope). Has z.guard c.args.edge.from) (sym (same_scope c.loop-to.invariant)) (subst (λ (x : NumberSet). Has x c.args.edge.from) c.guard.ensures (c.if-not-has.ensures.0 refl))
+    subst (λ (z : Scope). Has z.ground.now.guard c.args.edge.from) (sym (same_scope c.loop-to.invariant)) (c.if-not-admits.ensures.0 refl)
 
 pub lead_to-fell-requires-clause-rest : goal.lead_to-fell-requires-clause-rest
 lead_to-fell-requires-clause-rest c = in_at c.args.self.now.scope c.loop-to.self.scope _ (same_scope c.loop-to.invariant) (is_in c.args.self.now.scope _ _ _ c.requires.rest (ends_in c.args.self.now.scope _ c.requires.edge).1 (omega (arith, c.loop-to-test.true, c.states-to-end.ensures)))

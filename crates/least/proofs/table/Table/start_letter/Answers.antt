@@ -15,4 +15,4 @@ pub loop-edge-preserved : goal.loop-edge-preserved
 loop-edge-preserved c rules r∈ = run_at _ _ _ _ (item_in _ _ _ _ c.edges-edge-items.ensures c.loop-edge-test.true) (c.loop-edge.invariant rules r∈) (c.letter_by-fell.ensures rules r∈)
 
 pub returns : goal.returns
-returns c rules r∈ = letter_all rules _ _ _ _ _ _ (run_like _ _ (λ at. at) (run_all rules (edges_of c.args.self.now.scope.model.now) _ (omega (arith, ap length c.edges-edge-items.ensures, c.loop-edge-test.false)) (c.loop-edge.invariant rules r∈)))
+returns c rules r∈ = letter_all rules _ _ _ _ _ _ (run_like _ _ (λ at. at) (run_all rules (edges_of c.args.self.now.scope.ground.now.model) _ (omega (arith, ap length c.edges-edge-items.ensures, c.loop-edge-test.false)) (c.loop-edge.invariant rules r∈)))

@@ -8,4 +8,4 @@ use Rattle.least.proofs.table.Table.start_letter.Given as goal
 
 abbrev pub invariant-loop-edge : goal.invariant-loop-edge
 invariant-loop-edge l = Always (Letter l.head l.action)
-    (λ t. (i : ℕ) → i < l.edge-index → (e : Edge) → slice_get (edges_of l.initial.self.scope.model.now) i ≡ Some e → LetterAt l.top l.head l.action e t) l.initial.self l.self l.fell
+    (λ t. (i : ℕ) → i < l.edge-index → (e : Edge) → slice_get (edges_of l.initial.self.scope.ground.now.model) i ≡ Some e → LetterAt l.top l.head l.action e t) l.initial.self l.self l.fell

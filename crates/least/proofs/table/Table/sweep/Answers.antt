@@ -1,9 +1,9 @@
 use Rattle.std.proofs.Common.{sym, ap, ◌∙◌, subst}
 use Rattle.model.specs.Relations.{Among}
-use Rattle.language.proofs.Coming.{coming_among}
+use Rattle.language.proofs.Coming.{coming_among, all_came}
 use Rattle.language.specs.Rules.{SymbolsBelow}
 use Rattle.least.specs.declared.scope.Scope.{Scope}
-use Rattle.least.proofs.Runs.{all_came, run_like, run_next}
+use Rattle.least.proofs.Runs.{run_like, run_next}
 use Rattle.least.proofs.table.Table.sweep.Goals as goal
 
 pub sweep_rule-fell-requires : goal.sweep_rule-fell-requires
@@ -21,4 +21,4 @@ loop-rule-preserved g c =
 pub returns : goal.returns
 returns g c =
     let all = all_came _ (c.into_iter-rule-iterator.ensures.into_iter_gives ∙ c.rules-rule-items.ensures.rules) c.loop-rule.yielded_by c.in-None.ensures.steps.0 in
-    run_like _ _ (λ at r r∈. at r (subst (Among r) all r∈)) c.loop-rule.invariant
+    run_like _ _ (λ at r r∈. at r (subst (Among r) (sym all) r∈)) c.loop-rule.invariant

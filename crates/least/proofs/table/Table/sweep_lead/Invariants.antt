@@ -8,4 +8,4 @@ use Rattle.least.proofs.table.Table.sweep_lead.Given as goal
 
 abbrev pub invariant-loop-edge : goal.invariant-loop-edge
 invariant-loop-edge l = Always (Lead l.lead.head l.lead.action l.lead.rest)
-    (λ t. (i : ℕ) → i < l.edge-index → (e : Edge) → slice_get (edges_of l.initial.self.scope.model.now) i ≡ Some e → LedAlong l.top l.band.low l.band.high l.lead.head l.lead.action l.lead.rest e t) l.initial.self l.self l.fell
+    (λ t. (i : ℕ) → i < l.edge-index → (e : Edge) → slice_get (edges_of l.initial.self.scope.ground.now.model) i ≡ Some e → LedAlong l.top l.band.low l.band.high l.lead.head l.lead.action l.lead.rest e t) l.initial.self l.self l.fell

@@ -17,12 +17,11 @@ shortest-requires g c =
     let language = c.args.language.now in
     let tells : Told = told (g.L.Alphabet.known language) (g.L.UntilLanguage.symbols language) (g.L.UntilLanguage.rules language) in
     let may = searchable (model_of c.args.self.now) tells _ _ _ _ _ _ _ free in
-    let same = c.in_ok-fitting.ensures.same in
     record {
-      state = may.state;
-      work = rw same (omega (arith, c.satisfying-some.auto.work, may.room));
+      state = rw c.of-guarded.ensures may.state;
+      work = rw (c.of-guarded.ensures, c.in_ok-fitting.ensures.same) (omega (arith, c.satisfying-some.auto.work, may.room));
       waiting = may.memory;
-      marks = rw c.of-guarded.ensures at c.satisfying-some.ensures.derived;
+      marks = c.satisfying-some.ensures.derived;
     }
 
 pub returns : goal.returns
@@ -34,7 +33,7 @@ returns g c =
     let laws = g.met.L.UntilLanguage in
     record {
       answer = witnessed_shown _ tells _ _ _ _ _ _ _ _ _ _ c.in_ok-fitting.ensures.marks free
-          (λ w. laws.derived language w may.symbols may.rules) (λ w. laws.only_derived language w may.symbols may.rules) c.shortest.result (rw c.in_ok-fitting.ensures.same at c.shortest.ensures);
+          (λ w. laws.derived language w may.symbols may.rules) (λ w. laws.only_derived language w may.symbols may.rules) c.shortest.result (rw (c.of-guarded.ensures, c.in_ok-fitting.ensures.same) at c.shortest.ensures);
       work = shown_unless _ _ _ _ _ _ _ _ c.shortest.result _ c.shortest.ensures;
       waiting = shown_unless _ _ _ _ _ _ _ _ c.shortest.result _ c.shortest.ensures;
     }
