@@ -12,3 +12,5 @@ pub struct Watched<'a, W: Watcher> {
     ghost small: { (W.Watcher.table watcher.now).states ≤ 32 },
     ghost alphabet: { W.Alphabet.known watcher.now ≡ model.now.actions },
 }
+
+mod checking;

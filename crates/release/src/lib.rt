@@ -3,5 +3,6 @@
 
 mod search;
 
+pub use charts::Watched;
 pub use positions::{Position, Positions};
 pub use search::{doomed, keeping};

@@ -53,11 +53,11 @@ returns g c =
     let inv = c.loop-top.invariant in
     let begun = c.doom_marked.ensures in
     let made = c.over-search.ensures in
-    let unkept = states_without m c.states.result c.below.result c.args.kept c.without.result (c.states.ensures ∙ sym (ap (λ k. k.watched.model.now.states) begun.same ∙ ap (λ w. w.model.now.states) made.watched)) c.below.ensures c.without.ensures in
-    let bad = subst (λ k. Exactly (Holds x.found.rows) (BadBelow (table_of k) (table_of k).states (Has c.without.result))) (sym begun.same) begun.bad in
+    let unkept = states_without m c.states.result c.below.result c.args.kept c.without-unkept.result (c.states.ensures ∙ sym (ap (λ k. k.watched.model.now.states) begun.same ∙ ap (λ w. w.model.now.states) made.watched)) c.below.ensures c.without-unkept.ensures in
+    let bad = subst (λ k. Exactly (Holds x.found.rows) (BadBelow (table_of k) (table_of k).states (Has c.without-unkept.result))) (sym begun.same) begun.bad in
     let all = doomed_all m t s.freeing c.args.kept y.found.rows (charted s).whole
-    (inv.sound c.args.kept (sound_bad m t (Has s.freeing) (Has c.args.kept) x.found.rows (Has c.without.result) (charted s).small bad (λ u. (unkept u).0)))
+    (inv.sound c.args.kept (sound_bad m t (Has s.freeing) (Has c.args.kept) x.found.rows (Has c.without-unkept.result) (charted s).small bad (λ u. (unkept u).0)))
     (λ u q k l b. inv.keeps (u, q) ((bad (u, q)).1 (l, b.0, (unkept u).1 (k, b.1))))
     (ready_end m t (Has s.freeing) y.found.rows y.pile c.in_default.ensures.waiting inv.ready) in
-    subst (λ f. Doomed c.args.model.now (g.W.Watcher.table c.args.watcher.now) (Has c.args.freeing) (Has c.args.kept) f.rows) (sym c.in_default.ensures.found)
-    (doomed_by s c.args.watcher.now c.args.model.now c.args.freeing (Has c.args.kept) y.found.rows (ap (λ k. k.watched.watcher.now) begun.same ∙ ap (λ w. w.watcher.now) made.watched) (ap (λ k. k.watched.model.now) begun.same ∙ ap (λ w. w.model.now) made.watched) (ap (λ k. k.freeing) begun.same ∙ made.freeing) all)
+    subst (λ f. Doomed c.args.watched.model.now (g.W.Watcher.table c.args.watched.watcher.now) (Has c.args.freeing) (Has c.args.kept) f.rows) (sym c.in_default.ensures.found)
+    (doomed_by s c.args.watched.watcher.now c.args.watched.model.now c.args.freeing (Has c.args.kept) y.found.rows (ap (λ k. k.watched.watcher.now) begun.same ∙ ap (λ w. w.watcher.now) made.watched) (ap (λ k. k.watched.model.now) begun.same ∙ ap (λ w. w.model.now) made.watched) (ap (λ k. k.freeing) begun.same ∙ made.freeing) all)
