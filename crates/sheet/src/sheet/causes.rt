@@ -8,6 +8,7 @@ ghost use Rattle.sheet.specs.Causes.{Full, CauseProposition, CauseNot, CauseOr, 
 use crate::sheet::Sheet;
 use language::{Fitting, UntilLanguage, Watcher};
 use model::{NumberSet, Refusal};
+use release::Watched;
 
 impl Sheet<'_> {
     pub(crate) fn check_room(&self) -> Result<(), Refusal>
@@ -93,22 +94,21 @@ impl Sheet<'_> {
         Ok((fitting, marks))
     }
 
-    pub(crate) fn release_parts<W: Watcher>(
-        &self,
+    // The watcher beside the model and the marks of the two questions, for a release call.
+    pub(crate) fn release_parts<'l, W: Watcher>(
+        &'l self,
         freeing: usize,
         kept: usize,
-        watcher: &W,
-    ) -> Result<(NumberSet, NumberSet), Refusal>
+        watcher: &'l W,
+    ) -> Result<(Watched<'l, W>, (NumberSet, NumberSet)), Refusal>
         ensures cause { CauseRelease (model_of self.now) (W.Alphabet.known watcher.now) (W.Watcher.table watcher.now) freeing kept (length self.now.questions.items) (refusal result) }
-        ensures marks { IfOk result (λ x. MarksOf self.now.questions.items freeing kept x) }
+        ensures watcher { IfOk result (λ x. x.0.watcher.now ≡ watcher.now) }
+        ensures model { IfOk result (λ x. x.0.model.now ≡ model_of self.now) }
+        ensures marks { IfOk result (λ x. MarksOf self.now.questions.items freeing kept x.1) }
     {
-        if watcher.action_count() != self.model.actions() {
-            return Err(Refusal::OtherAlphabet);
-        }
-        if watcher.state_count() > 32 {
-            return Err(Refusal::TooLarge);
-        }
-        self.parts(freeing, kept)
+        let watched = Watched::of(watcher, self.model)?;
+        let marks = self.parts(freeing, kept)?;
+        Ok((watched, marks))
     }
 
     // The language and the marks of guard and goal, for a path call: all its causes but the last, which only the search

@@ -26,8 +26,8 @@ impl Sheet<'_> {
     ) -> Result<usize, Refusal>
         ensures { Asked self.old self.new (CauseRelease (model_of self.old) (W.Alphabet.known watcher.now) (W.Watcher.table watcher.now) freeing kept) (ReleaseForm freeing kept) (λ s. (s < (model_of self.old).states) × SomeKeeps (model_of self.old) (Has (at self.old.questions.items freeing).marks) (Has (at self.old.questions.items kept).marks) (W.Watcher.words watcher.now) s) (λ book. release_of (formula book freeing) (formula book kept) (W.Watcher.table watcher.now)) result }
     {
-        let (frees, keeps) = self.release_parts(freeing, kept, watcher)?;
-        let marks = keeping(watcher, self.model, frees, keeps);
+        let (watched, (frees, keeps)) = self.release_parts(freeing, kept, watcher)?;
+        let marks = keeping(watched, frees, keeps);
         Ok(self.add(Form::Release(freeing, kept), marks))
     }
 }
