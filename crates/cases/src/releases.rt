@@ -2,7 +2,7 @@
 use crate::languages::{Oversized, ab};
 use crate::memory::table;
 use crate::report::Report;
-use crate::sheets::marks;
+use crate::sheets::compare_marks;
 use crate::workshop::{basics, still, workshop};
 use model::Refusal;
 use sheet::Sheet;
@@ -35,10 +35,7 @@ pub fn marked(report: &mut Report) -> anyhow::Result<()> {
         ("marks of release no, proposition 0, odd lengths", 6, 10),
         ("marks of release proposition 1, no, odd lengths", 7, 8),
     ];
-    for (what, q, states) in cases {
-        report.compare(what, marks(&sheet, q), Ok(states))?;
-    }
-    Ok(())
+    compare_marks(report, &sheet, &cases)
 }
 
 pub fn stopped(report: &mut Report) -> anyhow::Result<()> {
@@ -62,10 +59,7 @@ pub fn stopped(report: &mut Report) -> anyhow::Result<()> {
         ("marks of release no, no, even lengths", 5, 0),
         ("marks of release no, no, odd lengths", 6, 1),
     ];
-    for (what, q, states) in cases {
-        report.compare(what, marks(&sheet, q), Ok(states))?;
-    }
-    Ok(())
+    compare_marks(report, &sheet, &cases)
 }
 
 // A watcher of two states that marks the words in which action 1 has occurred.
@@ -116,10 +110,7 @@ pub fn nested(report: &mut Report) -> anyhow::Result<()> {
         ("marks of question 8", 8, 3),
         ("marks of question 9", 9, 12),
     ];
-    for (what, q, states) in cases {
-        report.compare(what, marks(&sheet, q), Ok(states))?;
-    }
-    Ok(())
+    compare_marks(report, &sheet, &cases)
 }
 
 pub fn refused(report: &mut Report) -> anyhow::Result<()> {

@@ -9,6 +9,18 @@ pub fn marks(sheet: &Sheet, q: usize) -> Result<usize, Refusal> {
     Ok(sheet.marks(q)?.bits() as usize)
 }
 
+// Compares the marks of questions, each as the sum of 2^s.
+pub fn compare_marks(
+    report: &mut Report,
+    sheet: &Sheet,
+    cases: &[(&str, usize, usize)],
+) -> anyhow::Result<()> {
+    for (what, q, states) in cases {
+        report.compare(what, marks(sheet, *q), Ok(*states))?;
+    }
+    Ok(())
+}
+
 pub fn booleans(report: &mut Report) -> anyhow::Result<()> {
     report.heading("questions about the workshop model, marks as the sum of 2^s")?;
     let model = workshop()?;
@@ -25,10 +37,7 @@ pub fn booleans(report: &mut Report) -> anyhow::Result<()> {
         ("marks of no", 3, 0),
         ("marks of proposition 1", 4, 8),
     ];
-    for (what, q, states) in cases {
-        report.compare(what, marks(&sheet, q), Ok(states))?;
-    }
-    Ok(())
+    compare_marks(report, &sheet, &cases)
 }
 
 pub fn refusals(report: &mut Report) -> anyhow::Result<()> {

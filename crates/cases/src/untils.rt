@@ -2,7 +2,7 @@
 use crate::languages::{Oversized, ab, nothing_said};
 use crate::memory::{sevens, table};
 use crate::report::Report;
-use crate::sheets::marks;
+use crate::sheets::compare_marks;
 use crate::workshop::{basics, workshop};
 use kinds::Brackets;
 use model::Refusal;
@@ -43,10 +43,7 @@ pub fn marked(report: &mut Report) -> anyhow::Result<()> {
         ("marks of until no, proposition 0, the empty word", 7, 1),
         ("marks of until yes, proposition 1, brackets 0 and 1", 8, 11),
     ];
-    for (what, q, states) in cases {
-        report.compare(what, marks(&sheet, q), Ok(states))?;
-    }
-    Ok(())
+    compare_marks(report, &sheet, &cases)
 }
 
 pub fn refused(report: &mut Report) -> anyhow::Result<()> {
