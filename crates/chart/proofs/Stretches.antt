@@ -1,17 +1,20 @@
 -- What the rules give is derived; and where they give nothing new, all that is derived is there.
-use Rattle.std.proofs.Common.{◌≡◌, ℕ, zero, suc, ◌+◌, ◌<◌, ◌≤◌, List, [], ◌∷◌, ◌++◌, length, get_or, drop, Some, sym, refl, ap, subst, arith}
+use Rattle.std.proofs.Common.{Bool, Decides, ◌≡◌, ℕ, zero, suc, ◌+◌, ◌<◌, ◌≤◌, List, [], ◌∷◌, ◌++◌, length, get_or, drop, Some, sym, refl, ap, subst, arith}
 use Rattle.std.specs.List.{slice_get}
 use Rattle.std.proofs.lemmas.List.{drop_more, drop_all, length-drop}
 use Rattle.std.proofs.lemmas.Option.{slice_get-get_or}
-use Rattle.model.specs.Relations.{Among}
+use Rattle.model.specs.Relations.{Among, Exactly}
+use Rattle.model.specs.Sets.{Has}
+use Rattle.model.specs.declared.number_set.NumberSet.{NumberSet}
 use Rattle.model.proofs.Joins.{place_before}
 use Rattle.language.specs.Words.{Word}
 use Rattle.language.specs.Rules.{head_of}
 use Rattle.language.specs.Derivations.{Yields, DerivesWithin, Derives}
 use Rattle.language.specs.declared.rule.Rule.{Rule}
 use Rattle.language.specs.declared.rule.Rule.TheVariants.{Empty, Letter, Lead, Same, Pair}
-use Rattle.chart.specs.Charts.{Triple, Spells, Stretch, Gives, ByRules}
+use Rattle.chart.specs.Charts.{Spells, Stretch, Gives, ByRules}
 use Rattle.language.proofs.Heights.{by_empty, by_letter, by_lead, by_same, by_pair}
+use Rattle.model.specs.Triples.{Triple, Holds, row_of}
 
 module _ (w : Word) where
   pub spells_inside : (i : ℕ) (u : Word) (j : ℕ) → Spells w i u j → i ≤ length w
@@ -97,3 +100,10 @@ module _ (w : Word) where
 
       pub shut_all : (p : Triple) → Stretch w rules p → facts p
       shut_all p (u, s, (h, d)) = by_height h p.0 u d p.1 p.2 s
+
+-- whether a symbol derives the empty word stands in its first row
+pub empty_decided : (rules : List Rule) (rows : List NumberSet) (x : ℕ) → Exactly (Holds rows) (Stretch [] rules) → (row : NumberSet) (b has : Bool) → b ≡ has → row ≡ row_of rows x 0 → Decides has (Has row 0) → Decides b (Derives rules x [])
+empty_decided rules rows x facts row b has same is d = rw same (
+  λ yes. let (u, spells, derived) = (facts (x, 0, 0)).0 (omega arith, subst (λ y. Has y 0) is (d.0 yes)) in subst (Derives rules x) (spelled [] u 0 spells) derived,
+  λ derived. d.1 (subst (λ y. Has y 0) (sym is) ((facts (x, 0, 0)).1 ([], (refl, omega arith), derived)).1),
+)

@@ -13,11 +13,5 @@ pub(crate) fn emptying<L: UntilLanguage>(language: &Fitting<L>) -> NumberSet
     ensures { Exactly (Has result) (λ x. (x < 16) × Derives (L.rules language.now) x []) }
 {
     let chart = fill(language, &[]);
-    let mut found = NumberSet::empty();
-    for symbol in 0..16u8 {
-        if chart.row(symbol, 0).has(0) {
-            found = found.union(NumberSet::single(symbol));
-        }
-    }
-    found
+    NumberSet::passing(16, |symbol| chart.row(symbol, 0).has(0))
 }

@@ -4,21 +4,21 @@ ghost use Rattle.std.specs.List.{slice_get};
 ghost use Rattle.model.specs.Relations.{Joined, Exactly};
 ghost use Rattle.model.specs.Sets.{Has};
 ghost use Rattle.language.specs.Rules.{SymbolsBelow};
-ghost use Rattle.chart.specs.Charts.{Holds, Gives, ByRule, ByRules, Stretch};
+ghost use Rattle.chart.specs.Charts.{Gives, ByRule, ByRules, Stretch};
+ghost use Rattle.model.specs.Triples.{Holds};
 
-use crate::table::Chart;
 use language::{Fitting, Rule, UntilLanguage};
-use model::NumberSet;
+use model::{NumberSet, TripleSet};
 
 // Whether the action stands at a place of the word.
 fn reads(word: &[u8], place: u8, action: u8) -> bool
     ensures { Decides result (slice_get word.now place ≡ Some action) }
 {
-    (place as usize) < word.len() && word[place as usize] == action
+    word.get(place as usize).copied() == Some(action)
 }
 
 // The places at which a stretch from `from` ends that the rule gives its head, from what the chart has.
-fn given(chart: &Chart, rule: Rule, word: &[u8], from: u8) -> NumberSet
+fn given(chart: &TripleSet, rule: Rule, word: &[u8], from: u8) -> NumberSet
     requires symbols { SymbolsBelow 16 rule }
     requires short { length word.now ≤ 31 }
     requires inside { from ≤ length word.now }
@@ -26,27 +26,18 @@ fn given(chart: &Chart, rule: Rule, word: &[u8], from: u8) -> NumberSet
 {
     match rule {
         Rule::Empty { .. } => NumberSet::single(from),
-        Rule::Letter { action, .. } => {
-            if reads(word, from, action) {
-                NumberSet::single(from + 1)
-            } else {
-                NumberSet::empty()
-            }
-        }
-        Rule::Lead { action, rest, .. } => {
-            if reads(word, from, action) {
-                chart.row(rest, from + 1)
-            } else {
-                NumberSet::empty()
-            }
-        }
+        Rule::Letter { action, .. } if reads(word, from, action) => NumberSet::single(from + 1),
+        Rule::Lead { action, rest, .. } if reads(word, from, action) => chart.row(rest, from + 1),
+        Rule::Letter { .. } | Rule::Lead { .. } => NumberSet::empty(),
         Rule::Same { body, .. } => chart.row(body, from),
-        Rule::Pair { left, right, .. } => chart.through(chart.row(left, from), right),
+        Rule::Pair { left, right, .. } => {
+            chart.through(NumberSet::empty(), chart.row(left, from), right)
+        }
     }
 }
 
 // Adds what the rule gives from what the chart has.
-fn add_rule(next: &mut Chart, chart: &Chart, rule: Rule, word: &[u8])
+fn add_rule(next: &mut TripleSet, chart: &TripleSet, rule: Rule, word: &[u8])
     requires symbols { SymbolsBelow 16 rule }
     requires short { length word.now ≤ 31 }
     ensures { Joined (Holds next.old.rows) (Holds next.new.rows) (ByRule word.now rule (Holds chart.now.rows)) }
@@ -59,7 +50,7 @@ fn add_rule(next: &mut Chart, chart: &Chart, rule: Rule, word: &[u8])
 }
 
 // What the chart has, with what each rule gives from it.
-fn round<L: UntilLanguage>(language: &Fitting<L>, word: &[u8], chart: &Chart) -> Chart
+fn round<L: UntilLanguage>(language: &Fitting<L>, word: &[u8], chart: &TripleSet) -> TripleSet
     requires { length word.now ≤ 31 }
     ensures { Joined (Holds chart.now.rows) (Holds result.rows) (ByRules word.now (L.rules language.now) (Holds chart.now.rows)) }
 {
@@ -71,14 +62,14 @@ fn round<L: UntilLanguage>(language: &Fitting<L>, word: &[u8], chart: &Chart) ->
 }
 
 // All facts about the word: round by round, until a round adds none.
-pub(crate) fn fill<L: UntilLanguage>(language: &Fitting<L>, word: &[u8]) -> Chart
+pub(crate) fn fill<L: UntilLanguage>(language: &Fitting<L>, word: &[u8]) -> TripleSet
     requires { length word.now ≤ 31 }
     ensures { Exactly (Holds result.rows) (Stretch word.now (L.rules language.now)) }
 {
-    let mut chart = Chart::empty();
+    let mut chart = TripleSet::empty();
     loop {
         let next = round(language, word, &chart);
-        if next.same(&chart) {
+        if next.count() == chart.count() {
             return chart;
         }
         chart = next;

@@ -4,6 +4,5 @@
 mod asking;
 mod empty_word;
 mod filling;
-mod table;
 
 pub use asking::derives;

@@ -1,12 +1,12 @@
 -- A set of triples that is filled row by row.
 use Rattle.std.proofs.lemmas.Bool.{false≢true}
-use Rattle.std.proofs.Common.{Bool, true, false, not, Decides, ◌≢◌, ◌≡◌, ℕ, ◌+◌, ◌*◌, ◌<◌, ◌≤◌, ◌⊎◌, List, length, get_or, set, sym, refl, ap, ◌∙◌, subst, inl, inr, ⊎_elim, arith, get_or-set_other, get_or-set_same}
+use Rattle.std.proofs.Common.{Bool, true, false, not, Decides, ◌≢◌, ◌≡◌, ℕ, ◌+◌, ◌*◌, ◌<◌, ◌⊎◌, List, length, get_or, set, sym, refl, ap, ◌∙◌, subst, inl, inr, ⊎_elim, arith, get_or-set_other, get_or-set_same}
 use native.Mathlib.Decide.{dec_lt, ℕ_discrete}
 use Rattle.model.specs.declared.number_set.NumberSet.{NumberSet}
 use Rattle.model.specs.Relations.{Joined, Exactly}
-use Rattle.model.specs.Sets.{Bit, Has, nothing}
+use Rattle.model.specs.Sets.{Has, nothing}
 use Rattle.model.proofs.Bits.{bit_none}
-use Rattle.model.specs.Triples.{Triple, row_of, Holds, InRow, Through, TriplesBelow}
+use Rattle.model.specs.Triples.{Triple, row_of, Holds, InRow, Through}
 
 pub has_none : (x : NumberSet) (t : ℕ) → x ≡ nothing → Has x t → ⊥
 has_none x t e h = bit_none t (subst (λ y. Has y t) e h)
@@ -64,15 +64,6 @@ through_all rows from rest first reached symbol e j = record { keeps = λ t h. b
   where
     back : (t : ℕ) → ReachedOr first from rows symbol t → Has reached t
     back t m = ⊎_elim (λ h. h) (λ d. absurd (has_none rest d.0 e d.1)) (j.only t m)
-
--- every state is reached
-pub through_every : (rows : List NumberSet) (from first reached every : NumberSet) (symbol n : ℕ) {R : ℕ → Type 0} → n ≤ 32 → reached.bits ≡ every.bits → Exactly (Has every) (λ t. (t < n) × (t < 32)) → TriplesBelow 16 n (Holds rows)
-    → ((t : ℕ) → Has first t → Has reached t) → Joined (Has reached) (ReachedOr first from rows symbol) R → Joined (Has first) (Has reached) (Through (Has from) (Holds rows) symbol)
-through_every rows from first reached every symbol n l e is below kept j = record {
-  keeps = kept;
-  puts = λ t m. let b = (below _ m.2).2 in subst (λ k. Bit k t) (sym e) ((is t).1 (b, omega arith));
-  only = j.keeps;
-}
 
 pub through_more : (rows : List NumberSet) (rest rest' reached reached' row : NumberSet) (symbol state : ℕ) {T : ℕ → Type 0} → state < 32 → row ≡ row_of rows symbol state
     → Joined (Has rest') (Has rest) (λ u. u ≡ state) → Joined (Has reached) (Has reached') (Has row)

@@ -2,7 +2,7 @@
 ghost use Rattle.std.specs.Prelude.{◌≡◌, ℕ, ◌<◌, ◌≤◌, ◌≢◌, length};
 ghost use Rattle.model.specs.Relations.{Joined, Exactly};
 ghost use Rattle.model.specs.Sets.{Has, nothing};
-ghost use Rattle.model.specs.Triples.{Triple, row_of, Holds, size, InRow, Through, Lacking, TriplesBelow};
+ghost use Rattle.model.specs.Triples.{Triple, row_of, Holds, size, InRow, Through, Lacking};
 
 use crate::number_set::NumberSet;
 
@@ -59,22 +59,15 @@ impl TripleSet {
         NumberSet::passing(16, |first| !self.seconds(first).is_empty())
     }
 
-    // Adds to `reached` the third numbers that stand with a first and some second of `from`; it stops once every number
-    // below the bound is reached.
-    pub fn through(&self, reached: NumberSet, from: NumberSet, first: u8, bound: u8) -> NumberSet
-        requires first { first < 16 }
-        requires bound { bound ≤ 32 }
-        requires below { TriplesBelow 16 bound (Holds self.now.rows) }
+    // Adds to `reached` the third numbers that stand with a first and some second of `from`.
+    pub fn through(&self, reached: NumberSet, from: NumberSet, first: u8) -> NumberSet
+        requires { first < 16 }
         ensures { Joined (Has reached) (Has result) (Through (Has from) (Holds self.now.rows) first) }
     {
-        let every = NumberSet::below(bound);
         let mut found = reached;
         let mut rest = from;
-        while found != every {
-            match rest.take_last() {
-                Some(second) => found = found.union(self.row(first, second)),
-                None => return found,
-            }
+        while let Some(second) = rest.take_last() {
+            found = found.union(self.row(first, second));
         }
         found
     }

@@ -10,9 +10,10 @@ use Rattle.language.specs.Rules.{SymbolsBelow, RulesWithin}
 use Rattle.language.specs.Derivations.{Yields, DerivesWithin}
 use Rattle.language.proofs.Heights.{within_more}
 use Rattle.logic.specs.Paths.{word}
-use Rattle.logic.specs.Facts.{Triple, Ground, Guarded, FactWithin, Fact, LeastHeight}
-use Rattle.until.specs.Consequences.{Gives, GivesAlone, GivesFresh, ByRules, ByRulesAlone, ByRulesFresh, Lacking, FactsBelow}
+use Rattle.logic.specs.Facts.{Ground, Guarded, FactWithin, Fact, LeastHeight}
+use Rattle.until.specs.Consequences.{Gives, GivesAlone, GivesFresh, ByRules, ByRulesAlone, ByRulesFresh}
 use Rattle.logic.proofs.GuardedPaths.{word_append, guarded_start, guarded_end, guarded_append, guarded_split, guarded_edge}
+use Rattle.model.specs.Triples.{Triple, Lacking, TriplesBelow}
 
 -- more facts give more
 pub gives_mono : (g : Ground) (r : Rule) (F G : Triple → Type 0) → ((f : Triple) → F f → G f) → (f : Triple) → Gives g r F f → Gives g r G f
@@ -63,15 +64,15 @@ yields_head n (Pair H B C) F X w l y = let e = y.0 in omega arith
 
 module _ (g : Ground) (rules : List Rule) where
   -- symbol and states of a fact are there
-  pub fact_below : (n h : ℕ) → RulesWithin n rules → FactsBelow n g.model.states (FactWithin g rules h)
+  pub fact_below : (n h : ℕ) → RulesWithin n rules → TriplesBelow n g.model.states (FactWithin g rules h)
   fact_below n zero within f (p, w, d) = absurd d
   fact_below n (suc h) within f (p, w, (r, r∈, y)) =
       (yields_head n r _ f.0 _ (within r r∈) y, guarded_start g f.1 f.2 p w, guarded_end g f.1 f.2 p w)
 
-  pub exact_below : (n h : ℕ) (F : Triple → Type 0) → RulesWithin n rules → Exactly F (FactWithin g rules h) → FactsBelow n g.model.states F
+  pub exact_below : (n h : ℕ) (F : Triple → Type 0) → RulesWithin n rules → Exactly F (FactWithin g rules h) → TriplesBelow n g.model.states F
   exact_below n h F within is f y = fact_below n h within f ((is f).0 y)
 
-  pub lacking_below : (n h : ℕ) (F G : Triple → Type 0) → RulesWithin n rules → Exactly F (Lacking (FactWithin g rules h) G) → FactsBelow n g.model.states F
+  pub lacking_below : (n h : ℕ) (F G : Triple → Type 0) → RulesWithin n rules → Exactly F (Lacking (FactWithin g rules h) G) → TriplesBelow n g.model.states F
   lacking_below n h F G within is f y = fact_below n h within f ((is f).0 y).0
 
   -- what a rule gives from facts is a fact

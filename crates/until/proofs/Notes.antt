@@ -4,10 +4,9 @@ use native.Mathlib.Decide.{dec_lt, ℕ_discrete}
 use Rattle.std.proofs.lemmas.Nat.{div-add-mod', div-mul-add, mod-mul-add, mod_below, mul-le}
 use Rattle.model.specs.declared.number_set.NumberSet.{NumberSet}
 use Rattle.model.specs.Sets.{Has}
-use Rattle.until.specs.FactTables.{row_of, Holds, spot}
-use Rattle.until.specs.Consequences.{FactsBelow}
 use Rattle.model.specs.Relations.{Joined}
-use Rattle.until.specs.Notes.{Written}
+use Rattle.until.specs.Notes.{Written, spot}
+use Rattle.model.specs.Triples.{row_of, Holds, TriplesBelow}
 
 pub written_none : (P : ℕ → Type 0) (v : ℕ) (ws : List ℕ) → ((k : ℕ) → P k → ⊥) → Written P v ws ws
 written_none P v ws none k = inr (none k, refl)
@@ -53,7 +52,7 @@ spot_below n m k pos l =
     subst (λ j. j < m * n * n) (sym (place_of n (k / n / n) (k / n % n) k refl refl)) (place_below n m (k / n / n) (k / n % n) (k % n) l (mod_below (k / n) n pos) (mod_below k n pos))
 
 -- the places of one row
-module _ (n x s : ℕ) (rows : List NumberSet) (row : NumberSet) {m : ℕ} (small : n ≤ 32) (within : s < n) (is_row : row ≡ row_of rows x s) (below : FactsBelow m n (Holds rows)) where
+module _ (n x s : ℕ) (rows : List NumberSet) (row : NumberSet) {m : ℕ} (small : n ≤ 32) (within : s < n) (is_row : row ≡ row_of rows x s) (below : TriplesBelow m n (Holds rows)) where
   pub row_to_below : (t : ℕ) → Has row t → t < n
   row_to_below t h = (below (x, s, t) (omega arith, subst (λ y. Has y t) is_row h)).2
 

@@ -1,63 +1,19 @@
 -- A table that is filled row by row.
-use Rattle.std.proofs.Common.{◌≡◌, ℕ, ◌+◌, ◌*◌, ◌<◌, ◌≤◌, ◌⊎◌, List, length, get_or, set, Some, sym, refl, ap, ◌∙◌, subst, inl, inr, ⊎_elim, arith, get_or-set_other, get_or-set_same}
-use native.Mathlib.Decide.{dec_lt, ℕ_discrete}
+use Rattle.std.proofs.Common.{Bool, true, false, not, Decides, ◌≡◌, ℕ, ◌<◌, ◌≤◌, List, length, Some, sym, refl, ◌∙◌, subst, inl, arith}
+use mathlib.Core.Bool.{false≢true}
 use Rattle.std.specs.List.{slice_get}
 use Rattle.model.specs.declared.edge.Edge.{Edge}
 use Rattle.model.specs.declared.number_set.NumberSet.{NumberSet}
 use Rattle.model.specs.Relations.{Among, Joined, Upto, Exactly}
 use Rattle.model.specs.Sets.{Bit, Has, nothing}
-use Rattle.model.proofs.Bits.{bit_none}
+use Rattle.model.proofs.TripleRows.{has_none}
 use Rattle.model.proofs.Joins.{joined_like, same_place, place_before}
-use Rattle.logic.specs.Facts.{Triple}
-use Rattle.until.specs.FactTables.{row_of, Holds}
-use Rattle.until.specs.Consequences.{InRow, Through, StartingAt, FactsBelow, ByEmpty, BySame, ByPair}
-
-pub has_none : (x : NumberSet) (t : ℕ) → x ≡ nothing → Has x t → ⊥
-has_none x t e h = bit_none t (subst (λ y. Has y t) e h)
-
-pub holds_dec : (rows : List NumberSet) (f : Triple) → Dec (Holds rows f)
-holds_dec rows f = go (dec_lt f.1 32) (ℕ_discrete _ 1)
-  where
-    go : Dec (f.1 < 32) → Dec (Has (row_of rows f.0 f.1) f.2) → Dec (Holds rows f)
-    go (yes l) (yes h) = yes (l, h)
-    go (yes l) (no n) = no (λ y. n y.1)
-    go (no n) d = no (λ y. n y.0)
-
--- one row is stored, with more states in it
-pub row_added : (rows : List NumberSet) (x s : ℕ) (old new more : NumberSet) → length rows ≡ 512 → x < 16 → s < 32 → old ≡ row_of rows x s → Joined (Has old) (Has new) (Has more) → Joined (Holds rows) (Holds (set rows (x * 32 + s) new)) (InRow x s (Has more))
-row_added rows x s old new more long lx ls is j = record {
-  keeps = λ f h. elim (ℕ_discrete (f.0 * 32 + f.1) (x * 32 + s)) [
-    | yes e ↦ (h.0, stored f e (j.keeps f.2 (subst (λ y. Has y f.2) (ap (λ k. get_or rows k nothing) e ∙ sym is) h.1)))
-    | no n ↦ (h.0, subst (λ y. Has y f.2) (sym (get_or-set_other rows (x * 32 + s) (f.0 * 32 + f.1) new nothing n)) h.1)
-  ];
-  puts = λ f m. (let e = m.1 in omega arith, stored f (let e₀ = m.0 in let e₁ = m.1 in omega arith) (j.puts f.2 m.2));
-  only = λ f h. elim (ℕ_discrete (f.0 * 32 + f.1) (x * 32 + s)) [
-    | yes e ↦ ⊎_elim (λ o. inl (h.0, subst (λ y. Has y f.2) (is ∙ ap (λ k. get_or rows k nothing) (sym e)) o)) (λ m. let l = h.0 in inr (omega arith, omega arith, m))
-        (j.only f.2 (subst (λ y. Has y f.2) (ap (λ k. get_or (set rows (x * 32 + s) new) k nothing) e ∙ get_or-set_same rows (x * 32 + s) new nothing room) h.1))
-    | no n ↦ inl (h.0, subst (λ y. Has y f.2) (get_or-set_other rows (x * 32 + s) (f.0 * 32 + f.1) new nothing n) h.1)
-  ];
-}
-  where
-    room : x * 32 + s < length rows
-    room = omega arith
-
-    stored : (f : Triple) → f.0 * 32 + f.1 ≡ x * 32 + s → Has new f.2 → Has (get_or (set rows (x * 32 + s) new) (f.0 * 32 + f.1) nothing) f.2
-    stored f e h = subst (λ y. Has y f.2) (sym (ap (λ k. get_or (set rows (x * 32 + s) new) k nothing) e ∙ get_or-set_same rows (x * 32 + s) new nothing room)) h
+use Rattle.until.specs.Consequences.{StartingAt, ByEmpty, BySame, ByPair}
+use Rattle.model.specs.Triples.{Triple, row_of, Holds, InRow, Through}
 
 -- all the rows are done
 pub rows_all : {P Q : Triple → Type 0} (D : Triple → Type 0) (n : ℕ) → ((f : Triple) → D f → f.1 < n) → Joined P Q (Upto (λ s. StartingAt D s) n) → Joined P Q D
 rows_all D n below j = joined_like _ _ (λ f m. m.2.1) (λ f d. (f.1, below f d, (refl, d))) j
-
--- a row that has grown: of what is added only the more is new
-pub row_grown : (rows : List NumberSet) (head s : ℕ) (row out : NumberSet) {Q : Triple → Type 0} (T : ℕ → Type 0) → s < 32 → row ≡ row_of rows head s → Joined (Has row) (Has out) T → Joined (Holds rows) Q (InRow head s (Has out)) → Joined (Holds rows) Q (InRow head s T)
-row_grown rows head s row out T within is grown j = record {
-  keeps = j.keeps;
-  puts = λ f m. j.puts f (m.0, m.1, grown.puts f.2 m.2);
-  only = λ f q. ⊎_elim inl (λ m. ⊎_elim (λ h. inl (there f m (subst (λ x. Has x f.2) is h))) (λ t. inr (m.0, m.1, t)) (grown.only f.2 m.2)) (j.only f q);
-}
-  where
-    there : (f : Triple) → InRow head s (Has out) f → Has (row_of rows head s) f.2 → Holds rows f
-    there f m h = (let e = m.1 in omega arith, subst (λ k. Has (row_of rows k f.1) f.2) (sym m.0) (subst (λ k. Has (row_of rows head k) f.2) (sym m.1) h))
 
 -- one row of what a pair rule gives; of the middle states those with no fact on may be left out
 module _ (rows seconds : List NumberSet) (head left right s : ℕ) (starts middle : NumberSet) (within : s < 32)
@@ -75,6 +31,18 @@ module _ (rows seconds : List NumberSet) (head left right s : ℕ) (starts middl
 
   pub pair_row : {P Q : Triple → Type 0} → Joined P Q (InRow head s (Through (Has middle) (Holds seconds) right)) → Joined P Q (StartingAt (ByPair head left right (Holds rows) (Holds seconds)) s)
   pair_row j = joined_like _ _ pair_to pair_from j
+
+-- a row with every state gains nothing
+pub row_full : (rows : List NumberSet) (head s n : ℕ) (row every : NumberSet) (D : Triple → Type 0) → s < 32 → n ≤ 32 → row ≡ row_of rows head s → row.bits ≡ every.bits → Exactly (Has every) (λ t. (t < n) × (t < 32))
+    → ((f : Triple) → D f → (f.0 ≡ head) × (f.2 < n)) → Joined (Holds rows) (Holds rows) (StartingAt D s)
+row_full rows head s n row every D within few is all states inside = record {
+  keeps = λ f h. h;
+  puts = λ f (e, d).
+      let (h, l) = inside f d in
+      let there : Has row f.2 = subst (λ k. Bit k f.2) (sym all) ((states f.2).1 (l, omega arith)) in
+      (omega arith, subst (λ k. Has (row_of rows k f.1) f.2) (sym h) (subst (λ k. Has (row_of rows head k) f.2) (sym e) (subst (λ y. Has y f.2) is there)));
+  only = λ f h. inl h;
+}
 
 module _ (states head s : ℕ) (one : NumberSet) (within : s < states) (small : s < 32) (is_one : Exactly (Has one) (λ t. (t ≡ s) × (s < 32))) where
   empty_to : (f : Triple) → InRow head s (Has one) f → StartingAt (ByEmpty states head) s f
@@ -109,34 +77,8 @@ among_all xs n D done j = joined_like _ _
     (λ p m. (m.2.0, (m.0, m.2.1), m.2.2))
     (λ p m. (m.1.0, omega (arith, place_before xs m.1.0 m.0 m.1.1), (m.0, m.1.1, m.2))) j
 
--- through the states of a set, one after another
-abbrev pub ReachedOr : NumberSet → NumberSet → List NumberSet → ℕ → ℕ → Type 0
-ReachedOr reached from rows symbol t = Has reached t ⊎ Through (Has from) (Holds rows) symbol t
-
-pub through_none : (rows : List NumberSet) (from reached : NumberSet) (symbol : ℕ) → Joined (Has reached) (ReachedOr reached from rows symbol) (Through (Has from) (Holds rows) symbol)
-through_none rows from reached symbol = record { keeps = λ t h. inl h; puts = λ t m. inr m; only = λ t m. m }
-
--- no state of the set is left
-pub through_all : (rows : List NumberSet) (from rest first reached : NumberSet) (symbol : ℕ) → rest ≡ nothing → Joined (Has reached) (ReachedOr first from rows symbol) (Through (Has rest) (Holds rows) symbol) → Joined (Has first) (Has reached) (Through (Has from) (Holds rows) symbol)
-through_all rows from rest first reached symbol e j = record { keeps = λ t h. back t (inl h); puts = λ t m. back t (inr m); only = j.keeps }
-  where
-    back : (t : ℕ) → ReachedOr first from rows symbol t → Has reached t
-    back t m = ⊎_elim (λ h. h) (λ d. absurd (has_none rest d.0 e d.1)) (j.only t m)
-
--- every state is reached
-pub through_every : (rows : List NumberSet) (from first reached every : NumberSet) (symbol n : ℕ) {R : ℕ → Type 0} → n ≤ 32 → reached.bits ≡ every.bits → Exactly (Has every) (λ t. (t < n) × (t < 32)) → FactsBelow 16 n (Holds rows)
-    → ((t : ℕ) → Has first t → Has reached t) → Joined (Has reached) (ReachedOr first from rows symbol) R → Joined (Has first) (Has reached) (Through (Has from) (Holds rows) symbol)
-through_every rows from first reached every symbol n l e is below kept j = record {
-  keeps = kept;
-  puts = λ t m. let b = (below _ m.2).2 in subst (λ k. Bit k t) (sym e) ((is t).1 (b, omega arith));
-  only = j.keeps;
-}
-
-pub through_more : (rows : List NumberSet) (rest rest' reached reached' row : NumberSet) (symbol state : ℕ) {T : ℕ → Type 0} → state < 32 → row ≡ row_of rows symbol state
-    → Joined (Has rest') (Has rest) (λ u. u ≡ state) → Joined (Has reached) (Has reached') (Has row)
-    → Joined (Has reached) T (Through (Has rest) (Holds rows) symbol) → Joined (Has reached') T (Through (Has rest') (Holds rows) symbol)
-through_more rows rest rest' reached reached' row symbol state l is taken more j = record {
-  keeps = λ t h. ⊎_elim (j.keeps t) (λ r. j.puts t (state, taken.puts state refl, (l, subst (λ x. Has x t) is r))) (more.only t h);
-  puts = λ t m. j.puts t (m.0, taken.keeps m.0 m.1, m.2);
-  only = λ t m. ⊎_elim (λ h. inl (more.keeps t h)) (λ d. ⊎_elim (λ r. inr (d.0, r, d.2)) (λ e. inl (more.puts t (subst (λ x. Has x t) (sym is) (subst (λ u. Holds rows (symbol, u, t)) e d.2).1))) (taken.only d.0 d.1)) (j.only t m);
-}
+-- some state of a row is in the goal where their common set is not empty
+pub met_decided : (rows : List NumberSet) (x s : ℕ) (goal row met : NumberSet) (empty : Bool) → s < 32 → row ≡ row_of rows x s → Exactly (Has met) (λ t. Has row t × Has goal t) → Decides empty (met ≡ nothing) → (empty ≡ false → (t : ℕ) × Has met t)
+    → Decides (not empty) ((t : ℕ) × Holds rows (x, s, t) × Has goal t)
+met_decided rows x s goal row met true l is both none some = (λ never. absurd (false≢true never), λ (t, h, k). absurd (has_none met t (none.0 refl) ((both t).1 (subst (λ y. Has y t) (sym is) h.1, k))))
+met_decided rows x s goal row met false l is both none some = (λ _. let (t, h) = some refl in let m = (both t).0 h in (t, (l, subst (λ y. Has y t) is m.0), m.1), λ _. refl)

@@ -4,29 +4,14 @@ use Rattle.model.specs.declared.edge.Edge.{Edge}
 use Rattle.model.specs.Models.{HasEdge}
 use Rattle.model.specs.Relations.{Among}
 use Rattle.model.specs.Sets.{Has}
+use Rattle.model.specs.Triples.{Triple, InRow}
 use Rattle.language.specs.declared.rule.Rule.{Rule}
 use Rattle.language.specs.declared.rule.Rule.TheVariants.{Empty, Letter, Lead, Same, Pair}
-use Rattle.logic.specs.Facts.{Triple, Ground}
-
--- a fact of this symbol and from-state, to a state of the set
-abbrev pub InRow : ℕ → ℕ → (ℕ → Type 0) → Triple → Type 0
-InRow symbol from set f = (f.0 ≡ symbol) × (f.1 ≡ from) × set f.2
-
--- reached from a state of the set by a fact of the symbol
-abbrev pub Through : (ℕ → Type 0) → (Triple → Type 0) → ℕ → ℕ → Type 0
-Through set facts symbol t = (u : ℕ) × set u × facts (symbol, u, t)
+use Rattle.logic.specs.Facts.{Ground}
 
 -- those of the facts that start at s
 abbrev pub StartingAt : (Triple → Type 0) → ℕ → Triple → Type 0
 StartingAt facts s f = (f.1 ≡ s) × facts f
-
--- of the first and not of the second
-abbrev pub Lacking : (Triple → Type 0) → (Triple → Type 0) → Triple → Type 0
-Lacking first second f = first f × (second f → ⊥)
-
--- symbol and states of each fact are below these numbers
-abbrev pub FactsBelow : ℕ → ℕ → (Triple → Type 0) → Type 0
-FactsBelow symbols states facts = (f : Triple) → facts f → (f.0 < symbols) × (f.1 < states) × (f.2 < states)
 
 -- a letter or lead rule comes to t by this edge first, out of a state where the guard holds
 abbrev pub Led : Ground → Rule → (Triple → Type 0) → Edge → ℕ → Type 0

@@ -1,3 +1,2 @@
-pub mod FactTables
 pub mod Consequences
 pub mod Notes

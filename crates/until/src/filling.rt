@@ -2,15 +2,16 @@
 ghost use Rattle.std.specs.Prelude.{◌≡◌, ℕ, ◌*◌, ◌<◌, ◌≤◌, length, slice_index};
 ghost use Rattle.model.specs.Relations.{Exactly};
 ghost use Rattle.logic.specs.Facts.{Fact, LeastHeight};
-ghost use Rattle.until.specs.FactTables.{Holds, spot};
+ghost use Rattle.model.specs.Triples.{Holds};
+ghost use Rattle.until.specs.Notes.{spot};
 
-use crate::fact_table::FactTable;
 use crate::layout::Layout;
 use crate::noting::{clear, note};
 use crate::parts::Parts;
 use crate::rounds::{first_facts, further_facts};
 use language::{Fitting, UntilLanguage};
 use logic::GuardedModel;
+use model::TripleSet;
 
 // All facts, round by round until a round finds no more; each fact is combined with the others in one round only.
 // The work table gets the least height of each fact, which is the round in which it came, and 0 where there is none.
@@ -19,7 +20,7 @@ pub fn fill<L: UntilLanguage>(
     language: &Fitting<L>,
     guarded: &GuardedModel,
     work: &mut [u32],
-) -> FactTable
+) -> TripleSet
     requires { L.symbols language.now * guarded.now.model.states * guarded.now.model.states ≤ length work.old }
     ensures facts { Exactly (Holds result.rows) (Fact guarded.now (L.rules language.now)) }
     ensures heights { (k : ℕ) → k < L.symbols language.now * guarded.now.model.states * guarded.now.model.states → LeastHeight guarded.now (L.rules language.now) (spot guarded.now.model.states k) (slice_index work.new k) }
@@ -30,7 +31,7 @@ pub fn fill<L: UntilLanguage>(
         states: guarded.states(),
     };
     clear(work, layout.entries());
-    let mut all = FactTable::empty();
+    let mut all = TripleSet::empty();
     let mut fresh = first_facts(language, guarded);
     let mut size = 0u32;
     let mut round = 0u32;

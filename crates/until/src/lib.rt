@@ -2,7 +2,6 @@
 // from which a good path starts.
 #![tactic(auto)]
 
-mod fact_table;
 mod filling;
 mod layout;
 mod marking;
@@ -11,6 +10,5 @@ mod parts;
 mod rounds;
 mod rule_steps;
 
-pub use fact_table::FactTable;
 pub use filling::fill;
 pub use marking::{reaching, satisfying};

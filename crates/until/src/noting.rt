@@ -1,13 +1,11 @@
 // The work table: for each fact the round in which it came.
 ghost use Rattle.std.specs.Prelude.{◌≡◌, ℕ, ◌+◌, ◌*◌, ◌/◌, ◌<◌, ◌≤◌, length};
 ghost use Rattle.model.specs.Sets.{Has};
-ghost use Rattle.until.specs.FactTables.{Holds, spot};
-ghost use Rattle.until.specs.Consequences.{FactsBelow};
-ghost use Rattle.until.specs.Notes.{Written};
+ghost use Rattle.until.specs.Notes.{Written, spot};
+ghost use Rattle.model.specs.Triples.{Holds, TriplesBelow};
 
-use crate::fact_table::FactTable;
 use crate::layout::Layout;
-use model::NumberSet;
+use model::{NumberSet, TripleSet};
 
 // Clears the places below `cells`.
 pub(crate) fn clear(work: &mut [u32], cells: usize)
@@ -29,9 +27,9 @@ fn note_row(work: &mut [u32], row: NumberSet, base: usize, round: u32)
 }
 
 // Writes the round at the places of a symbol's facts.
-fn note_symbol(work: &mut [u32], fresh: &FactTable, symbol: u8, layout: Layout, round: u32)
+fn note_symbol(work: &mut [u32], fresh: &TripleSet, symbol: u8, layout: Layout, round: u32)
     requires symbol { symbol < layout.symbols }
-    requires below { FactsBelow layout.symbols layout.states (Holds fresh.now.rows) }
+    requires below { TriplesBelow layout.symbols layout.states (Holds fresh.now.rows) }
     requires room { layout.symbols * layout.states * layout.states ≤ length work.old }
     ensures { Written (λ k. (k / layout.states / layout.states ≡ symbol) × Holds fresh.now.rows (spot layout.states k)) round work.old work.new }
 {
@@ -42,8 +40,8 @@ fn note_symbol(work: &mut [u32], fresh: &FactTable, symbol: u8, layout: Layout, 
 }
 
 // Writes the round at the place of each fresh fact, and leaves every other place as it is.
-pub(crate) fn note(work: &mut [u32], fresh: &FactTable, layout: Layout, round: u32)
-    requires below { FactsBelow layout.symbols layout.states (Holds fresh.now.rows) }
+pub(crate) fn note(work: &mut [u32], fresh: &TripleSet, layout: Layout, round: u32)
+    requires below { TriplesBelow layout.symbols layout.states (Holds fresh.now.rows) }
     requires room { layout.symbols * layout.states * layout.states ≤ length work.old }
     ensures { Written (λ k. Holds fresh.now.rows (spot layout.states k)) round work.old work.new }
 {

@@ -1,38 +1,35 @@
 // The facts that a round combines.
 ghost use Rattle.std.specs.Prelude.{◌≡◌, ◌≤◌};
 ghost use Rattle.model.specs.Sets.{Has};
-ghost use Rattle.logic.specs.Facts.{Triple};
-ghost use Rattle.until.specs.FactTables.{Holds};
-ghost use Rattle.until.specs.Consequences.{FactsBelow};
+ghost use Rattle.model.specs.Triples.{Triple, Holds, TriplesBelow};
 
-use crate::fact_table::FactTable;
-use model::NumberSet;
+use model::{NumberSet, TripleSet};
 
 // All facts so far, those of them that are fresh, and the symbols that have a fresh one, over so many states.
 #[derive(Drop)]
 pub(crate) struct Parts<'a> {
-    pub(crate) all: &'a FactTable,
-    pub(crate) fresh: &'a FactTable,
+    pub(crate) all: &'a TripleSet,
+    pub(crate) fresh: &'a TripleSet,
     pub(crate) live: NumberSet,
     pub(crate) states: u8,
     ghost few_states: { states ≤ 32 },
-    ghost all_below: { FactsBelow 16 states (Holds all.now.rows) },
-    ghost fresh_below: { FactsBelow 16 states (Holds fresh.now.rows) },
+    ghost all_below: { TriplesBelow 16 states (Holds all.now.rows) },
+    ghost fresh_below: { TriplesBelow 16 states (Holds fresh.now.rows) },
     ghost all_live: { (f : Triple) → Holds fresh.now.rows f → Has live f.0 },
 }
 
 impl<'a> Parts<'a> {
-    pub(crate) fn of(all: &'a FactTable, fresh: &'a FactTable, states: u8) -> Parts<'a>
+    pub(crate) fn of(all: &'a TripleSet, fresh: &'a TripleSet, states: u8) -> Parts<'a>
         requires states { states ≤ 32 }
-        requires all { FactsBelow 16 states (Holds all.now.rows) }
-        requires fresh { FactsBelow 16 states (Holds fresh.now.rows) }
+        requires all { TriplesBelow 16 states (Holds all.now.rows) }
+        requires fresh { TriplesBelow 16 states (Holds fresh.now.rows) }
         ensures all { result.all.now ≡ all.now }
         ensures fresh { result.fresh.now ≡ fresh.now }
     {
         Parts {
             all,
             fresh,
-            live: fresh.symbols(),
+            live: fresh.firsts(),
             states,
         }
     }

@@ -3,17 +3,16 @@ ghost use Rattle.std.specs.Prelude.{◌≡◌, ◌<◌, ◌≤◌};
 ghost use Rattle.model.specs.Relations.{Joined, Exactly};
 ghost use Rattle.model.specs.Sets.{Has};
 ghost use Rattle.language.specs.Rules.{head_of, SymbolsBelow};
-ghost use Rattle.until.specs.FactTables.{Holds};
-ghost use Rattle.until.specs.Consequences.{FactsBelow, ByEmpty, BySame, ByPair, ByEdge, Led, GivesAlone, GivesFresh};
+ghost use Rattle.until.specs.Consequences.{ByEmpty, BySame, ByPair, ByEdge, Led, GivesAlone, GivesFresh};
+ghost use Rattle.model.specs.Triples.{Holds, TriplesBelow};
 
-use crate::fact_table::FactTable;
 use crate::parts::Parts;
 use language::Rule;
 use logic::GuardedModel;
-use model::{Edge, NumberSet};
+use model::{Edge, NumberSet, TripleSet};
 
 // An empty rule: each state reaches itself.
-fn add_empty(found: &mut FactTable, states: u8, head: u8)
+fn add_empty(found: &mut TripleSet, states: u8, head: u8)
     requires head { head < 16 }
     requires states { states ≤ 32 }
     ensures { Joined (Holds found.old.rows) (Holds found.new.rows) (ByEmpty states head) }
@@ -24,11 +23,11 @@ fn add_empty(found: &mut FactTable, states: u8, head: u8)
 }
 
 // A same rule, from the facts of `bodies`.
-fn add_same(found: &mut FactTable, bodies: &FactTable, states: u8, head: u8, body: u8)
+fn add_same(found: &mut TripleSet, bodies: &TripleSet, states: u8, head: u8, body: u8)
     requires head { head < 16 }
     requires body { body < 16 }
     requires states { states ≤ 32 }
-    requires bodies { FactsBelow 16 states (Holds bodies.now.rows) }
+    requires bodies { TriplesBelow 16 states (Holds bodies.now.rows) }
     ensures { Joined (Holds found.old.rows) (Holds found.new.rows) (BySame head body (Holds bodies.now.rows)) }
 {
     for from in 0..states {
@@ -36,11 +35,11 @@ fn add_same(found: &mut FactTable, bodies: &FactTable, states: u8, head: u8, bod
     }
 }
 
-// A pair rule, with its left part among `firsts` and its right part among `seconds`.
+// A pair rule, with its left part among `lefts` and its right part among `rights`. A row with every state gains nothing.
 fn add_pair(
-    found: &mut FactTable,
-    firsts: &FactTable,
-    seconds: &FactTable,
+    found: &mut TripleSet,
+    lefts: &TripleSet,
+    rights: &TripleSet,
     states: u8,
     head: u8,
     left: u8,
@@ -50,20 +49,23 @@ fn add_pair(
     requires left { left < 16 }
     requires right { right < 16 }
     requires states { states ≤ 32 }
-    requires firsts { FactsBelow 16 states (Holds firsts.now.rows) }
-    requires seconds { FactsBelow 16 states (Holds seconds.now.rows) }
-    ensures { Joined (Holds found.old.rows) (Holds found.new.rows) (ByPair head left right (Holds firsts.now.rows) (Holds seconds.now.rows)) }
+    requires lefts { TriplesBelow 16 states (Holds lefts.now.rows) }
+    requires rights { TriplesBelow 16 states (Holds rights.now.rows) }
+    ensures { Joined (Holds found.old.rows) (Holds found.new.rows) (ByPair head left right (Holds lefts.now.rows) (Holds rights.now.rows)) }
 {
-    let starts = seconds.starts(right);
+    let every = NumberSet::below(states);
+    let starts = rights.seconds(right);
     for from in 0..states {
-        let middle = firsts.row(left, from).common(starts);
-        let reached = seconds.through(found.row(head, from), middle, right, states);
-        found.add(head, from, reached);
+        let row = found.row(head, from);
+        if row != every {
+            let middle = lefts.row(left, from).common(starts);
+            found.add(head, from, rights.through(row, middle, right));
+        }
     }
 }
 
 // Where a letter or lead rule comes by this edge first, with the rest of a lead rule among `rests`.
-fn led(rests: &FactTable, guarded: &GuardedModel, rule: Rule, edge: Edge) -> NumberSet
+fn led(rests: &TripleSet, guarded: &GuardedModel, rule: Rule, edge: Edge) -> NumberSet
     requires rule { SymbolsBelow 16 rule }
     requires to { edge.to < 32 }
     ensures { Exactly (Has result) (Led guarded.now rule (Holds rests.now.rows) edge) }
@@ -78,7 +80,7 @@ fn led(rests: &FactTable, guarded: &GuardedModel, rule: Rule, edge: Edge) -> Num
 }
 
 // A letter or lead rule, with the rest of a lead rule among `rests`.
-fn add_led(found: &mut FactTable, rests: &FactTable, guarded: &GuardedModel, rule: Rule)
+fn add_led(found: &mut TripleSet, rests: &TripleSet, guarded: &GuardedModel, rule: Rule)
     requires { SymbolsBelow 16 rule }
     ensures { Joined (Holds found.old.rows) (Holds found.new.rows) (ByEdge guarded.now (head_of rule) rule (Holds rests.now.rows)) }
 {
@@ -89,8 +91,8 @@ fn add_led(found: &mut FactTable, rests: &FactTable, guarded: &GuardedModel, rul
 
 // A rule with no symbol in its body; any other adds nothing. A letter rule has no rest, so `rests` may be any table.
 pub(crate) fn add_alone(
-    found: &mut FactTable,
-    rests: &FactTable,
+    found: &mut TripleSet,
+    rests: &TripleSet,
     guarded: &GuardedModel,
     rule: Rule,
 )
@@ -105,7 +107,7 @@ pub(crate) fn add_alone(
 }
 
 // A rule with a fresh fact among its parts; only the live symbols have one.
-pub(crate) fn add_fresh(found: &mut FactTable, parts: &Parts, guarded: &GuardedModel, rule: Rule)
+pub(crate) fn add_fresh(found: &mut TripleSet, parts: &Parts, guarded: &GuardedModel, rule: Rule)
     requires { SymbolsBelow 16 rule }
     ensures { Joined (Holds found.old.rows) (Holds found.new.rows) (GivesFresh guarded.now rule (Holds parts.now.all.now.rows) (Holds parts.now.fresh.now.rows)) }
 {

@@ -1,6 +1,7 @@
 use Rattle.std.proofs.Common.{sym, refl, ◌∙◌, subst, arith}
 use Rattle.model.proofs.Joins.{joined_none, joined_more, joined_like}
-use Rattle.chart.specs.Charts.{Triple, Holds, Gives}
+use Rattle.chart.specs.Charts.{Gives}
+use Rattle.model.specs.Triples.{Triple, Holds}
 use Rattle.chart.proofs.filling.add_rule.Goals as goal
 
 pub loop-from-init : goal.loop-from-init

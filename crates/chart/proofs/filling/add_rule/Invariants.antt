@@ -1,6 +1,7 @@
 use Rattle.model.specs.Relations.{Joined, Upto}
 use Rattle.language.specs.Rules.{head_of}
-use Rattle.chart.specs.Charts.{Triple, Holds, Gives, InRow}
+use Rattle.chart.specs.Charts.{Gives}
+use Rattle.model.specs.Triples.{Triple, Holds, InRow}
 use Rattle.chart.proofs.filling.add_rule.Given as goal
 
 abbrev pub invariant-loop-from : goal.invariant-loop-from

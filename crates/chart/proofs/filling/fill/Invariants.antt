@@ -1,9 +1,10 @@
-use Rattle.chart.specs.Charts.{Triple, Holds, Stretch}
-use Rattle.chart.proofs.Rooms.{room}
+use Rattle.std.proofs.Common.{◌-◌}
+use Rattle.model.specs.Triples.{Triple, Holds, size}
+use Rattle.chart.specs.Charts.{Stretch}
 use Rattle.chart.proofs.filling.fill.Given as goal
 
 abbrev pub invariant-loop-next : goal.invariant-loop-next
 invariant-loop-next g l = (p : Triple) → Holds l.chart.rows p → Stretch l.word (g.L.UntilLanguage.rules l.language) p
 
 abbrev pub decreases-loop-next : goal.decreases-loop-next
-decreases-loop-next g l = room l.chart.rows
+decreases-loop-next g l = 16384 - size l.chart.rows 512

@@ -1,11 +1,12 @@
 use Rattle.std.proofs.Common.{◌≡◌, ℕ, ◌+◌, ◌*◌, ◌<◌, get_or, sym, refl, ap, ◌∙◌, subst, inl, inr, arith}
 use Rattle.language.proofs.Naming.{rules_more}
 use Rattle.logic.specs.Facts.{FactWithin, LeastHeight}
-use Rattle.until.specs.FactTables.{Holds, spot}
 use Rattle.until.proofs.Facts.{first_new, exact_below, lacking_below, height_joined, next_new, settled_all, entry_none, entry_more, entry_end}
 use Rattle.until.proofs.Notes.{spot_below}
-use Rattle.until.proofs.Rows.{holds_dec}
-use Rattle.until.proofs.Sizes.{table_grows, table_same}
+use Rattle.model.specs.Triples.{Holds}
+use Rattle.until.specs.Notes.{spot}
+use Rattle.model.proofs.TripleRows.{holds_dec}
+use Rattle.model.proofs.TripleSizes.{table_grows, table_same}
 use Rattle.until.proofs.filling.fill.Goals as goal
 
 -- places, by the numbers that the calls gave

@@ -1,8 +1,9 @@
 use Rattle.std.proofs.Common.{◌≡◌, ℕ, ◌-◌, ◌*◌, ◌<◌, ◌≤◌, get_or}
 use Rattle.model.specs.Relations.{Exactly}
 use Rattle.logic.specs.Facts.{FactWithin}
-use Rattle.until.specs.FactTables.{Holds, size, spot}
 use Rattle.until.proofs.Facts.{New, Entry}
+use Rattle.model.specs.Triples.{Holds, size}
+use Rattle.until.specs.Notes.{spot}
 use Rattle.until.proofs.filling.fill.Given as goal
 
 abbrev pub invariant-loop-size : goal.invariant-loop-size

@@ -1,8 +1,8 @@
 use Rattle.std.proofs.Common.{sym, subst}
 use Rattle.model.specs.Relations.{Joined}
 use Rattle.language.specs.Rules.{head_of}
-use Rattle.until.specs.FactTables.{Holds}
 use Rattle.until.specs.Consequences.{GivesAlone, ByEdge}
+use Rattle.model.specs.Triples.{Holds}
 use Rattle.until.proofs.rule_steps.add_alone.Goals as goal
 
 pub returns-in-Letter : goal.returns-in-Letter

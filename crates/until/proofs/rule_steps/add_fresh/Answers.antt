@@ -2,13 +2,13 @@ use Rattle.std.proofs.Common.{sym, subst, ⊎_elim}
 use mathlib.Core.Bool.{false≢true}
 use Rattle.model.specs.Relations.{Joined}
 use Rattle.model.proofs.Joins.{joined_same, joined_both, joined_from}
-use Rattle.until.specs.declared.fact_table.FactTable.{FactTable}
-use Rattle.until.specs.FactTables.{Holds}
 use Rattle.until.specs.Consequences.{GivesFresh, ByPair}
 use Rattle.language.specs.Rules.{SymbolsBelow}
 use Rattle.language.specs.declared.rule.Rule.{Rule}
 use Rattle.until.proofs.rule_steps.add_fresh.Goals as goal
 use Rattle.until.proofs.rule_steps.add_fresh.Goals.{then-has-3, else-has-3}
+use Rattle.model.specs.declared.triple_set.TripleSet.{TripleSet}
+use Rattle.model.specs.Triples.{Holds}
 
 -- the rest of a lead rule is not live
 pub returns-else-has : goal.returns-else-has
@@ -27,8 +27,8 @@ returns-then-has-4 c =
     let all = Holds c.args.parts.now.all.now.rows in
     let fresh = Holds c.args.parts.now.fresh.now.rows in
     let first : Joined (Holds c.args.found.now.rows) (Holds c.if-has-3.found.rows) (ByPair c.in-Pair.head c.in-Pair.left c.in-Pair.right fresh all) = elim c.if-has-3.branch [
-      | then-has-3 w ↦ joined_from {D = ByPair c.in-Pair.head c.in-Pair.left c.in-Pair.right fresh all} (λ (t : FactTable). Holds t.rows) (sym w.found-is) w.add_pair.ensures
-      | else-has-3 w ↦ joined_from {D = ByPair c.in-Pair.head c.in-Pair.left c.in-Pair.right fresh all} (λ (t : FactTable). Holds t.rows) (sym w.found-is) (joined_same (ByPair c.in-Pair.head c.in-Pair.left c.in-Pair.right fresh all) (λ f m. false≢true (w.if-has-3.ensures.1 (c.args.parts.now.all_live _ m.2))))
+      | then-has-3 w ↦ joined_from {D = ByPair c.in-Pair.head c.in-Pair.left c.in-Pair.right fresh all} (λ (t : TripleSet). Holds t.rows) (sym w.found-is) w.add_pair.ensures
+      | else-has-3 w ↦ joined_from {D = ByPair c.in-Pair.head c.in-Pair.left c.in-Pair.right fresh all} (λ (t : TripleSet). Holds t.rows) (sym w.found-is) (joined_same (ByPair c.in-Pair.head c.in-Pair.left c.in-Pair.right fresh all) (λ f m. false≢true (w.if-has-3.ensures.1 (c.args.parts.now.all_live _ m.2))))
     ] in
     subst (λ r. Joined (Holds c.args.found.now.rows) (Holds c.add_pair-then-has-4.new.found.rows) (GivesFresh c.args.guarded.now r all fresh)) (sym c.in-Pair.is)
     (joined_both (ByPair c.in-Pair.head c.in-Pair.left c.in-Pair.right fresh all) (ByPair c.in-Pair.head c.in-Pair.left c.in-Pair.right all fresh) first c.add_pair-then-has-4.ensures)
@@ -38,8 +38,8 @@ returns-else-has-4 c =
     let all = Holds c.args.parts.now.all.now.rows in
     let fresh = Holds c.args.parts.now.fresh.now.rows in
     let first : Joined (Holds c.args.found.now.rows) (Holds c.if-has-3.found.rows) (ByPair c.in-Pair.head c.in-Pair.left c.in-Pair.right fresh all) = elim c.if-has-3.branch [
-      | then-has-3 w ↦ joined_from {D = ByPair c.in-Pair.head c.in-Pair.left c.in-Pair.right fresh all} (λ (t : FactTable). Holds t.rows) (sym w.found-is) w.add_pair.ensures
-      | else-has-3 w ↦ joined_from {D = ByPair c.in-Pair.head c.in-Pair.left c.in-Pair.right fresh all} (λ (t : FactTable). Holds t.rows) (sym w.found-is) (joined_same (ByPair c.in-Pair.head c.in-Pair.left c.in-Pair.right fresh all) (λ f m. false≢true (w.if-has-3.ensures.1 (c.args.parts.now.all_live _ m.2))))
+      | then-has-3 w ↦ joined_from {D = ByPair c.in-Pair.head c.in-Pair.left c.in-Pair.right fresh all} (λ (t : TripleSet). Holds t.rows) (sym w.found-is) w.add_pair.ensures
+      | else-has-3 w ↦ joined_from {D = ByPair c.in-Pair.head c.in-Pair.left c.in-Pair.right fresh all} (λ (t : TripleSet). Holds t.rows) (sym w.found-is) (joined_same (ByPair c.in-Pair.head c.in-Pair.left c.in-Pair.right fresh all) (λ f m. false≢true (w.if-has-3.ensures.1 (c.args.parts.now.all_live _ m.2))))
     ] in
     subst (λ r. Joined (Holds c.args.found.now.rows) (Holds c.if-has-3.found.rows) (GivesFresh c.args.guarded.now r all fresh)) (sym c.in-Pair.is)
     (joined_both (ByPair c.in-Pair.head c.in-Pair.left c.in-Pair.right fresh all) (ByPair c.in-Pair.head c.in-Pair.left c.in-Pair.right all fresh) first (joined_same (ByPair c.in-Pair.head c.in-Pair.left c.in-Pair.right all fresh) (λ f m. false≢true (c.if-has-4.ensures.1 (c.args.parts.now.all_live _ m.3)))))
@@ -66,10 +66,10 @@ pub add_pair-requires : goal.add_pair-requires
 add_pair-requires c =
     let w = subst (SymbolsBelow 16) c.in-Pair.is c.requires in
     let parts = c.args.parts.now in
-    record { head = w.0; left = w.1; right = w.2; states = parts.few_states; firsts = parts.fresh_below; seconds = parts.all_below }
+    record { head = w.0; left = w.1; right = w.2; states = parts.few_states; lefts = parts.fresh_below; rights = parts.all_below }
 
 pub add_pair-requires-then-has-4 : goal.add_pair-requires-then-has-4
 add_pair-requires-then-has-4 c =
     let w = subst (SymbolsBelow 16) c.in-Pair.is c.requires in
     let parts = c.args.parts.now in
-    record { head = w.0; left = w.1; right = w.2; states = parts.few_states; firsts = parts.all_below; seconds = parts.fresh_below }
+    record { head = w.0; left = w.1; right = w.2; states = parts.few_states; lefts = parts.all_below; rights = parts.fresh_below }

@@ -30,8 +30,8 @@ led-requires-clause-to c =
     let inside = m.inside _ (c.loop-edge.edge-index, placed (edges_of m) _ _ c.edges-edge-items.ensures c.loop-edge-test.true) in
     omega (arith, inside.2, m.few_states)
 
-pub add-requires-clause-from : goal.add-requires-clause-from
-add-requires-clause-from c =
+pub add-requires-clause-second : goal.add-requires-clause-second
+add-requires-clause-second c =
     let m = c.args.guarded.now.model in
     let inside = m.inside _ (c.loop-edge.edge-index, placed (edges_of m) _ _ c.edges-edge-items.ensures c.loop-edge-test.true) in
     omega (arith, inside.0, m.few_states)

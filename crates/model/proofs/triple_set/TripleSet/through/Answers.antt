@@ -1,20 +1,12 @@
-use Rattle.std.proofs.Common.{sym, ◌∙◌}
-use Rattle.std.proofs.lemmas.Bool.{eqb-true, not-false}
-use Rattle.model.proofs.TripleRows.{through_none, through_more, through_all, through_every}
+use Rattle.model.proofs.TripleRows.{through_none, through_more, through_all}
 use Rattle.model.proofs.triple_set.TripleSet.through.Goals as goal
 
-pub loop-every-init : goal.loop-every-init
-loop-every-init c = (through_none _ _ _ _, λ t h. h)
+pub loop-second-init : goal.loop-second-init
+loop-second-init c = through_none _ _ _ _
 
-pub loop-every-preserved : goal.loop-every-preserved
-loop-every-preserved c = (
-  through_more c.args.self.now.rows _ _ _ _ c.row.result c.args.first c.in-Some.second c.in-Some.ensures.0 c.row.ensures c.in-Some.ensures.1 c.union-found.ensures c.loop-every.invariant.0,
-  λ t h. c.union-found.ensures.keeps t (c.loop-every.invariant.1 t h),
-)
-
-pub returns-in-None : goal.returns-in-None
-returns-in-None c = through_all c.args.self.now.rows c.args.from c.loop-every.rest c.args.reached c.loop-every.found c.args.first c.in-None.ensures.0 c.loop-every.invariant.0
+pub loop-second-preserved : goal.loop-second-preserved
+loop-second-preserved c =
+    through_more c.args.self.now.rows _ _ _ _ c.row.result c.args.first c.in-Some.second c.in-Some.ensures.0 c.row.ensures c.in-Some.ensures.1 c.union-found.ensures c.loop-second.invariant
 
 pub returns : goal.returns
-returns c = through_every c.args.self.now.rows c.args.from c.args.reached c.loop-every.found c.below-every.result c.args.first c.args.bound c.requires.bound
-    (eqb-true _ _ (not-false _ (sym c.ne.ensures ∙ c.loop-every-test.false))) c.below-every.ensures c.requires.below c.loop-every.invariant.1 c.loop-every.invariant.0
+returns c = through_all c.args.self.now.rows c.args.from c.loop-second.rest c.args.reached c.loop-second.found c.args.first c.in_default.ensures.0 c.loop-second.invariant
