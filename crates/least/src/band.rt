@@ -1,7 +1,18 @@
+ghost use Rattle.std.specs.Prelude.{◌≤◌, Decides};
+
 // The facts that a sweep takes up: those with an entry between low and high. Each is the first part of pair rules, and the second too if `both` is set.
 #[derive(Clone, Copy, PartialEq, Eq, Debug)]
 pub struct Band {
     pub low: u32,
     pub high: u32,
     pub both: bool,
+}
+
+impl Band {
+    // Whether the entry lies between low and high.
+    pub(crate) fn has(self, entry: u32) -> bool
+        ensures { Decides result ((self.low ≤ entry) × (entry ≤ self.high)) }
+    {
+        self.low <= entry && entry <= self.high
+    }
 }

@@ -14,7 +14,7 @@ use Rattle.logic.specs.Paths.{end}
 use Rattle.logic.specs.Facts.{Triple}
 use Rattle.least.specs.declared.table.Table.{Table}
 use Rattle.least.specs.Entries.{ground_of, In, entry_of, AtMost, Sound, Closed}
-use Rattle.least.specs.Lowering.{Run, weight}
+use Rattle.least.specs.Lowering.{Run, ShutStarts, ShutAll, weight}
 use Rattle.logic.proofs.GuardedPaths.{guarded_end, good_guarded}
 use Rattle.least.proofs.Least.{least}
 use Rattle.path.specs.Witnesses.{GoodFor, Nearest, Far, Best}
@@ -89,3 +89,14 @@ found_either rules w goal s top (Some t) r e closed best = rw e (top, omega arit
 pub lighter : (rules : List Rule) (Shut : Table → Type 0) (a b : Table) (x : Bool) → Run rules Shut a b x → weight b.entries.now ≤ weight a.entries.now
 lighter rules Shut a b true j = omega (arith, j.less refl)
 lighter rules Shut a b false j = omega (arith, ap (λ (t : Table). weight t.entries.now) (j.still refl).0)
+
+-- runs by the rules of a language that is known under another name
+module _ {rules all : List Rule} (same : rules ≡ all) {a b : Table} {x : Bool} where
+  pub sound_by : {Shut : Table → Type 0} → Run rules Shut a b x → Sound all a → Sound all b
+  sound_by run = subst (λ r. Sound r a → Sound r b) same run.sound
+
+  pub starts_by : {top : ℕ} → Run rules (ShutStarts rules top) a b x → Run all (ShutStarts all top) a b x
+  starts_by {top} run = subst (λ r. Run r (ShutStarts r top) a b x) same run
+
+  pub sweeps_by : {top low high : ℕ} → Run rules (ShutAll rules top low high) a b x → Run all (ShutAll all top low high) a b x
+  sweeps_by {top} {low} {high} run = subst (λ r. Run r (ShutAll r top low high) a b x) same run

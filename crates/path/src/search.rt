@@ -111,7 +111,7 @@ fn sweep_level<L: UntilLanguage>(
             both: true,
         }
     };
-    let fell = table.sweep(language, top, band);
+    let fell = table.sweep(language.rules(), top, band);
     fell && count_at(table.entries(), level) > before
 }
 
@@ -124,7 +124,7 @@ fn grow<L: UntilLanguage>(table: &mut Table, language: &Fitting<L>, top: u16, ai
     ensures low { result ≤ top }
     ensures level { result < top → (t : ℕ) × Nearest table.new aim.goal aim.state result table.new.scope.states t }
 {
-    let _ = table.start(language, top);
+    let _ = table.start(language.rules(), top);
     let mut level = 1u32;
     while level < top as u32 {
         if nearest(table, level, aim).is_some() {
@@ -138,6 +138,27 @@ fn grow<L: UntilLanguage>(table: &mut Table, language: &Fitting<L>, top: u16, ai
         }
     }
     top
+}
+
+// Lowers until no rule gives less, as far as entries up to the top go.
+fn settle<L: UntilLanguage>(table: &mut Table, language: &Fitting<L>, top: u16)
+    requires { table.old.scope.symbols ≡ L.symbols language.now }
+    ensures same { table.new.scope ≡ table.old.scope }
+    ensures sound { Sound (L.rules language.now) table.old → Sound (L.rules language.now) table.new }
+    ensures closed { Closed (L.rules language.now) top table.new }
+{
+    let band = Band {
+        low: 1,
+        high: top as u32,
+        both: false,
+    };
+    loop {
+        let first = table.start(language.rules(), top);
+        let second = table.sweep(language.rules(), top, band);
+        if !(first | second) {
+            return;
+        }
+    }
 }
 
 // Lowers until no rule gives less up to the top, and then finds the nearest state of the goal.
@@ -154,7 +175,7 @@ fn settled<L: UntilLanguage>(
     ensures closed { Closed (L.rules language.now) top table.new }
     ensures best { Best table.new aim.goal aim.state top table.new.scope.states result }
 {
-    table.settle(language, top);
+    settle(table, language, top);
     nearest(table, top as u32, aim)
 }
 

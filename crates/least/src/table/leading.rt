@@ -35,7 +35,7 @@ impl Table<'_> {
             to,
         });
         let known = self.entries[part];
-        if known < band.low || known > band.high {
+        if !band.has(known) {
             return false;
         }
         let cell = self.cell(Fact {

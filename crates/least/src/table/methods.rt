@@ -53,7 +53,7 @@ impl<'a> Table<'a> {
     pub fn entries(&self) -> &[u32]
         ensures { result.now ≡ self.now.entries.now }
     {
-        self.entries
+        &*self.entries
     }
 
     // The entry of a fact.

@@ -1,14 +1,14 @@
-// Lowering by all rules, until nothing falls.
+// Lowering by all rules.
 ghost use Rattle.std.specs.Prelude.{◌≡◌, ℕ, ◌*◌, ◌<◌, ◌≤◌, length, slice_index};
-ghost use Rattle.language.specs.Rules.{SymbolsBelow};
-ghost use Rattle.least.specs.Entries.{triple, In, Sound, Closed};
+ghost use Rattle.language.specs.Rules.{SymbolsBelow, RulesWithin};
+ghost use Rattle.least.specs.Entries.{triple, In};
 ghost use Rattle.least.specs.Lowering.{Always, Run, ShutIn, ShutRule, ShutAll, ShutStarts};
 
 use crate::band::Band;
 use crate::fact::Fact;
 use crate::table::Table;
 use crate::table::leading::Leading;
-use language::{Fitting, Rule, UntilLanguage};
+use language::{Rule, Rules, UntilLanguage};
 
 impl Table<'_> {
     // Lowers by the rule with the fact as a part, if its entry lies in the band.
@@ -18,7 +18,7 @@ impl Table<'_> {
         ensures { Always rule (ShutIn top band.low band.high rule (triple fact)) self.old self.new result }
     {
         let known = self.entry(fact);
-        if known < band.low || known > band.high {
+        if !band.has(known) {
             return false;
         }
         self.expand(top, fact, rule, band.both)
@@ -73,48 +73,27 @@ impl Table<'_> {
         }
     }
 
-    // Lowers by all rules with the facts that have an entry in the band.
-    pub fn sweep<L: UntilLanguage>(&mut self, language: &Fitting<L>, top: u16, band: Band) -> bool
-        requires { self.old.scope.symbols ≡ L.symbols language.now }
-        ensures { Run (L.rules language.now) (ShutAll (L.rules language.now) top band.low band.high) self.old self.new result }
+    // Lowers by the rules with the facts that have an entry in the band.
+    pub fn sweep<L: UntilLanguage>(&mut self, rules: Rules<L>, top: u16, band: Band) -> bool
+        requires { RulesWithin self.old.scope.symbols rules }
+        ensures { Run rules.entry (ShutAll rules.entry top band.low band.high) self.old self.new result }
     {
         let mut fell = false;
-        for rule in language.rules() {
+        for rule in rules {
             fell |= self.sweep_rule(top, band, rule);
         }
         fell
     }
 
-    // Lowers by all rules that have no part.
-    pub fn start<L: UntilLanguage>(&mut self, language: &Fitting<L>, top: u16) -> bool
-        requires { self.old.scope.symbols ≡ L.symbols language.now }
-        ensures { Run (L.rules language.now) (ShutStarts (L.rules language.now) top) self.old self.new result }
+    // Lowers by those of the rules that have no part.
+    pub fn start<L: UntilLanguage>(&mut self, rules: Rules<L>, top: u16) -> bool
+        requires { RulesWithin self.old.scope.symbols rules }
+        ensures { Run rules.entry (ShutStarts rules.entry top) self.old self.new result }
     {
         let mut fell = false;
-        for rule in language.rules() {
+        for rule in rules {
             fell |= self.start_rule(top, rule);
         }
         fell
-    }
-
-    // Lowers until no rule gives less, as far as entries up to the top go.
-    pub fn settle<L: UntilLanguage>(&mut self, language: &Fitting<L>, top: u16)
-        requires { self.old.scope.symbols ≡ L.symbols language.now }
-        ensures same { self.new.scope ≡ self.old.scope }
-        ensures sound { Sound (L.rules language.now) self.old → Sound (L.rules language.now) self.new }
-        ensures closed { Closed (L.rules language.now) top self.new }
-    {
-        loop {
-            let first = self.start(language, top);
-            let band = Band {
-                low: 1,
-                high: top as u32,
-                both: false,
-            };
-            let second = self.sweep(language, top, band);
-            if !(first | second) {
-                return;
-            }
-        }
     }
 }

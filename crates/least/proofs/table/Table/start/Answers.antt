@@ -1,18 +1,22 @@
-use Rattle.std.proofs.Common.{sym, ap, ◌∙◌, subst}
-use Rattle.language.proofs.Coming.{coming_among}
+use Rattle.std.proofs.Common.{sym, subst}
+use Rattle.model.specs.Relations.{Among}
+use Rattle.language.proofs.Coming.{coming_among, all_came}
 use Rattle.language.specs.Rules.{SymbolsBelow}
 use Rattle.least.specs.declared.scope.Scope.{Scope}
-use Rattle.least.proofs.Runs.{run_next}
+use Rattle.least.proofs.Runs.{run_like, run_next}
 use Rattle.least.proofs.table.Table.start.Goals as goal
 
 pub start_rule-fell-requires : goal.start_rule-fell-requires
 start_rule-fell-requires g c =
-    let given = c.rules-rule-items.ensures in
-    let among = coming_among _ (c.into_iter-rule-iterator.ensures.into_iter_gives ∙ given.rules) c.loop-rule.yielded_by c.in-Some.ensures.steps in
-    subst (λ k. SymbolsBelow k c.in-Some.rule) (sym c.requires ∙ ap (λ (z : Scope). z.symbols) (sym c.loop-rule.invariant.same)) (given.named c.in-Some.rule among)
+    let among = coming_among _ c.into_iter-rule-iterator.ensures.into_iter_gives c.loop-rule.yielded_by c.in-Some.ensures.steps in
+    subst (λ (z : Scope). SymbolsBelow z.symbols c.in-Some.rule) (sym c.loop-rule.invariant.same) (c.requires c.in-Some.rule among)
 
 pub loop-rule-preserved : goal.loop-rule-preserved
 loop-rule-preserved g c =
-    let given = c.rules-rule-items.ensures in
-    let among = coming_among _ (c.into_iter-rule-iterator.ensures.into_iter_gives ∙ given.rules) c.loop-rule.yielded_by c.in-Some.ensures.steps in
+    let among = coming_among _ c.into_iter-rule-iterator.ensures.into_iter_gives c.loop-rule.yielded_by c.in-Some.ensures.steps in
     run_next _ _ _ c.loop-rule.invariant (c.start_rule-fell.ensures _ among)
+
+pub returns : goal.returns
+returns g c =
+    let all = all_came _ c.into_iter-rule-iterator.ensures.into_iter_gives c.loop-rule.yielded_by c.in-None.ensures.steps.0 in
+    run_like _ _ (λ at r r∈. at r (subst (Among r) (sym all) r∈)) c.loop-rule.invariant

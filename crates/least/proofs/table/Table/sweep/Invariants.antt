@@ -4,4 +4,4 @@ use Rattle.least.specs.Lowering.{Run, ShutRule}
 use Rattle.least.proofs.table.Table.sweep.Given as goal
 
 abbrev pub invariant-loop-rule : goal.invariant-loop-rule
-invariant-loop-rule g l = Run (g.L.UntilLanguage.rules l.language) (λ t. (r : Rule) → Among r l.yielded → ShutRule l.top l.band.low l.band.high r t) l.initial.self l.self l.fell
+invariant-loop-rule g l = Run l.fn.rules (λ t. (r : Rule) → Among r l.yielded → ShutRule l.top l.band.low l.band.high r t) l.initial.self l.self l.fell
