@@ -1,6 +1,6 @@
 -- The symbols that rules name.
-use Rattle.std.proofs.Common.{ℕ, ◌<◌, ◌≤◌, List, arith}
-use Rattle.language.specs.Rules.{head_of, SymbolsBelow, RulesWithin}
+use Rattle.std.proofs.Common.{ℕ, ◌≤◌, List, arith}
+use Rattle.language.specs.Rules.{SymbolsBelow, RulesWithin}
 use Rattle.language.specs.declared.rule.Rule.{Rule}
 use Rattle.language.specs.declared.rule.Rule.TheVariants.{Empty, Letter, Lead, Same, Pair}
 
@@ -14,11 +14,3 @@ symbols_more k n l (Pair H B C) s = omega arith
 
 pub rules_more : (k n : ℕ) (rules : List Rule) → k ≤ n → RulesWithin k rules → RulesWithin n rules
 rules_more k n rules l within r there = symbols_more k n l r (within r there)
-
--- the head is among them
-pub head_below : (k : ℕ) (r : Rule) → SymbolsBelow k r → head_of r < k
-head_below k (Empty H) s = s
-head_below k (Letter H a) s = s
-head_below k (Lead H a B) s = s.0
-head_below k (Same H B) s = s.0
-head_below k (Pair H B C) s = s.0

@@ -1,7 +1,8 @@
 // How facts lie in a work table.
-ghost use Rattle.std.specs.Prelude.{◌≡◌, ◌+◌, ◌*◌, ◌<◌, ◌≤◌};
+ghost use Rattle.std.specs.Prelude.{◌≡◌, ◌+◌, ◌*◌, ◌≤◌};
 
-// For each symbol and from-state as many entries as there are states, one for each to-state.
+// For each symbol and from-state as many entries as there are states, one for each to-state. The table stays a slice
+// beside it: callers promise what stands in the slice afterwards, which a struct that borrows it would hide.
 #[derive(Clone, Copy)]
 pub(crate) struct Layout {
     pub(crate) symbols: u8,

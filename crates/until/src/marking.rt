@@ -21,8 +21,7 @@ pub fn reaching(table: &TripleSet, goal: NumberSet, states: u8) -> NumberSet
 }
 
 // The states from which some good path starts: its word is in the language, the guard holds before its end, and the
-// goal at its end. Another crate of ours calls this, and checks the size of
-// the table.
+// goal at its end. Another crate of ours calls this, and checks the size of the table.
 pub fn satisfying<L: UntilLanguage>(
     language: &Fitting<L>,
     guarded: &GuardedModel,

@@ -1,5 +1,5 @@
 // What one rule adds to a table of found facts.
-ghost use Rattle.std.specs.Prelude.{◌≡◌, ◌<◌, ◌≤◌};
+ghost use Rattle.std.specs.Prelude.{◌<◌, ◌≤◌};
 ghost use Rattle.model.specs.Relations.{Joined, Exactly};
 ghost use Rattle.model.specs.Sets.{Has};
 ghost use Rattle.language.specs.Rules.{head_of, SymbolsBelow};
