@@ -1,5 +1,5 @@
 -- Where the edges from a pair lead.
-use Rattle.std.proofs.Common.{◌≡◌, ℕ, ◌<◌, List, length, get_or, set, sym, ap, subst, arith}
+use Rattle.std.proofs.Common.{◌≡◌, ℕ, ◌<◌, List, [], ◌∙◌, length, get_or, set, sym, ap, subst, arith}
 use native.Mathlib.Decide.{ℕ_discrete}
 use Rattle.std.proofs.lemmas.List.{get_or-set_same, get_or-set_other}
 use Rattle.model.specs.declared.number_set.NumberSet.{NumberSet}
@@ -14,7 +14,7 @@ use Rattle.charts.proofs.Sure.{sure}
 use Rattle.positions.specs.Pairs.{Holds}
 use Rattle.charts.specs.declared.charts.Charts.{Charts}
 use Rattle.charts.specs.Arrows.{Into, Out, Back, Charted}
-use Rattle.positions.specs.Searches.{Led, LedBy, Noted, place}
+use Rattle.positions.specs.Searches.{Led, LedBy, Noted, noted_at, noting}
 use Rattle.positions.proofs.Sizes.{holds_dec}
 use Rattle.positions.proofs.Marks.{pair_is}
 
@@ -40,22 +40,24 @@ pub led_each : (m : Model) (t : Table) (rows : List NumberSet) (p : ℕ × ℕ) 
 led_each m t rows p all a u o = all (record { action = a; state = u }) o
 
 module _ (m : Model) (t : Table) where
-  pub noted_none : (rows : List NumberSet) (actions : List ℕ) → ((k : ℕ) → get_or actions k 0 ≡ 0) → Noted m t rows actions
-  noted_none rows actions zeros p s a l = absurd (omega (arith, zeros (place p)))
-
   -- what is found stays found
-  pub noted_keeps : (rows more : List NumberSet) (actions : List ℕ) → ((p : ℕ × ℕ) → Holds rows p → Holds more p) → Noted m t rows actions → Noted m t more actions
+  pub noted_keeps : (rows more : List NumberSet) (actions : List (List ℕ)) → ((p : ℕ × ℕ) → Holds rows p → Holds more p) → Noted m t rows actions → Noted m t more actions
   noted_keeps rows more actions keeps noted p s a l u o = keeps (u, step t p.1 a) (noted p s a l u o)
 
-  pub noted_more : (rows : List NumberSet) (actions : List ℕ) (x : ℕ × ℕ) (n : ℕ) → x.0 < 32 → place x < length actions → ((a : ℕ) → a < n → LedBy m t rows x a) → Noted m t rows actions → Noted m t rows (set actions (place x) n)
-  noted_more rows actions x n s room each noted p s' a l = go (ℕ_discrete (place p) (place x))
+  pub noted_more : (rows : List NumberSet) (actions : List (List ℕ)) (x : ℕ × ℕ) (n : ℕ) → x.1 < length actions → x.0 < length (get_or actions x.1 []) → ((a : ℕ) → a < n → LedBy m t rows x a) → Noted m t rows actions
+      → Noted m t rows (noting actions x n)
+  noted_more rows actions x n room space each noted p s' a l = go (ℕ_discrete p.1 x.1) (ℕ_discrete p.0 x.0)
     where
-      go : Dec (place p ≡ place x) → LedBy m t rows p a
-      go (yes e) =
-          let is : p ≡ (x.0, x.1) = pair_is p x.0 x.1 (omega arith) (omega arith) in
-          let l' : a < n = omega (arith, ap (λ k. get_or (set actions (place x) n) k 0) e, get_or-set_same actions (place x) n 0 room) in
+      row : p.1 ≡ x.1 → noted_at (noting actions x n) p ≡ get_or (set (get_or actions x.1 []) x.0 n) p.0 0
+      row e = ap (λ q. get_or (get_or (set actions x.1 (set (get_or actions x.1 []) x.0 n)) q []) p.0 0) e ∙ ap (λ xs. get_or xs p.0 0) (get_or-set_same actions x.1 (set (get_or actions x.1 []) x.0 n) [] room)
+
+      go : Dec (p.1 ≡ x.1) → Dec (p.0 ≡ x.0) → LedBy m t rows p a
+      go (yes e) (yes f) =
+          let is : p ≡ (x.0, x.1) = pair_is p x.0 x.1 f e in
+          let l' : a < n = omega (arith, l, row e, ap (λ k. get_or (set (get_or actions x.1 []) x.0 n) k 0) f, get_or-set_same (get_or actions x.1 []) x.0 n 0 space) in
           subst (λ z. LedBy m t rows z a) (sym is) (each a l')
-      go (no ne) = noted p s' a (omega (arith, get_or-set_other actions (place x) (place p) n 0 ne))
+      go (yes e) (no nf) = noted p s' a (omega (arith, l, row e, get_or-set_other (get_or actions x.1 []) x.0 p.0 n 0 nf, ap (λ q. get_or (get_or actions q []) p.0 0) e))
+      go (no ne) d = noted p s' a (omega (arith, l, ap (λ xs. get_or xs p.0 0) (get_or-set_other actions x.1 p.1 (set (get_or actions x.1 []) x.0 n) [] ne)))
 
 -- the ends of the edges from a state by an action, and the starts of those into it
 module _ (m : Model) (t : Table) (charts : Charts) (are : Charted m t charts) (a s : ℕ) (row : NumberSet) (small : s < 32) where

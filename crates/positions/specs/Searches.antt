@@ -1,5 +1,5 @@
 -- The search: pairs that are found, and of these the ones that wait on a pile. F frees, and t is the watcher's table.
-use Rattle.std.specs.Prelude.{◌≡◌, ℕ, ◌+◌, ◌*◌, ◌<◌, ◌≤◌, ◌⊎◌, List, [], ◌∷◌, length, slice_index}
+use Rattle.std.specs.Prelude.{◌≡◌, ℕ, ◌+◌, ◌*◌, ◌<◌, ◌≤◌, ◌⊎◌, List, [], ◌∷◌, length, slice_index, slice_index_or, slice_set}
 use Rattle.model.specs.declared.edge.Step.{Step}
 use Rattle.model.specs.declared.number_set.NumberSet.{NumberSet}
 use Rattle.model.specs.declared.model.Model.{Model}
@@ -37,13 +37,17 @@ LedBy m t rows p a = (u : ℕ) → Out m (a, p.0, u) → Holds rows (u, step t p
 abbrev pub Led : Model → Table → List NumberSet → ℕ × ℕ → Type 0
 Led m t rows p = (x : Step) → HasEdge m (edge p.0 x) → Holds rows (x.state, step t p.1 x.action)
 
--- where the progress of a pair is noted
-abbrev pub place : ℕ × ℕ → ℕ
-place p = p.1 * 32 + p.0
+-- the number that is noted for a pair
+abbrev pub noted_at : List (List ℕ) → ℕ × ℕ → ℕ
+noted_at actions p = slice_index (slice_index_or actions p.1 []) p.0
+
+-- the numbers with another one for a pair
+abbrev pub noting : List (List ℕ) → ℕ × ℕ → ℕ → List (List ℕ)
+noting actions p n = slice_set actions p.1 (slice_set (slice_index_or actions p.1 []) p.0 n)
 
 -- by each action below the number noted for a pair, every edge from it leads to a pair of the rows
-abbrev pub Noted : Model → Table → List NumberSet → List ℕ → Type 0
-Noted m t rows actions = (p : ℕ × ℕ) → p.0 < 32 → (a : ℕ) → a < slice_index actions (place p) → LedBy m t rows p a
+abbrev pub Noted : Model → Table → List NumberSet → List (List ℕ) → Type 0
+Noted m t rows actions = (p : ℕ × ℕ) → p.0 < 32 → (a : ℕ) → a < noted_at actions p → LedBy m t rows p a
 
 -- by the action an edge and a step of the table lead to the pair p
 abbrev pub BackBy : Model → Table → ℕ × ℕ → ℕ → ℕ × ℕ → Type 0

@@ -1,4 +1,4 @@
-ghost use Rattle.std.specs.Prelude.{◌≡◌, ℕ, ◌≤◌, List, [], ◌∷◌, ◌++◌, length, MatchOption, MatchResult, IsNone};
+ghost use Rattle.std.specs.Prelude.{◌≡◌, ◌≤◌, [], ◌∷◌, ◌++◌, length, MatchOption, MatchResult, IsNone};
 ghost use Rattle.model.specs.Refusals.{refusal, Refuse, Accept};
 ghost use Rattle.pile.specs.Items.{items, room};
 

@@ -28,9 +28,10 @@ invariant_of-self-clause-noted g c =
     let t = table_of s.setting in
     let p = pair c.args.position in
     let inside = subst (λ x. IsInside x.setting c.args.position) (sym c.loop-action.invariant.same) c.requires in
+    let small = (charted s.setting).small in
     subst (Noted s.setting.watched.model.now t s.found.rows) (sym c.note.ensures) (noted_more s.setting.watched.model.now t s.found.rows s.progress.actions p c.loop-action.action
-    (omega (arith, inside.0, s.setting.watched.model.now.few_states))
-    (omega (arith, inside.0, inside.1, s.setting.watched.model.now.few_states, (charted s.setting).small, s.progress.all_actions))
+    (omega (arith, inside.1, small, s.progress.all_watches))
+    (omega (arith, inside.0, s.setting.watched.model.now.few_states, s.progress.all_states c.args.position.watch (omega (arith, inside.1, small))))
     (λ a l. subst (Leads p a) (sym c.loop-action.invariant.same) (c.loop-action.invariant.led a l)) s.noted)
 
 pub returns-then-not-is_led_by-clause-led : goal.returns-then-not-is_led_by-clause-led
