@@ -26,12 +26,10 @@ fn steps_by(table: &Table, edge: Edge, action: u8, from: u8, to: u8) -> bool
 fn steps_to(table: &Table, action: u8, from: u8, to: u8) -> bool
     ensures { Decides result ((e : EdgeOf) × HasEdge table.now.scope.ground.now.model e × StepsBy table.now.scope.ground.now.guard action from to e) }
 {
-    for edge in table.edges() {
-        if steps_by(table, *edge, action, from, to) {
-            return true;
-        }
-    }
-    false
+    table
+        .edges()
+        .iter()
+        .any(|edge| steps_by(table, *edge, action, from, to))
 }
 
 // Whether the edge leads with the action to a state from which the rest has one step less.
@@ -55,6 +53,7 @@ fn steps_on(table: &Table, action: u8, rest: u8, span: Span) -> Option<u8>
     requires worth { 1 < span.worth }
     ensures { MatchOption result ((e : EdgeOf) → HasEdge table.now.scope.ground.now.model e → StepsBy table.now.scope.ground.now.guard action span.from e.to e → entry_of table.now (rest, e.to, span.to) ≢ span.worth - 1) (λ via. (e : EdgeOf) × HasEdge table.now.scope.ground.now.model e × StepsBy table.now.scope.ground.now.guard action span.from via e × (entry_of table.now (rest, via, span.to) ≡ span.worth - 1)) }
 {
+    // a loop: with `find` it was not shown of its closure that the edge is one of the model
     for edge in table.edges() {
         if steps_on_by(table, *edge, action, rest, span) {
             return Some(edge.to);
@@ -91,12 +90,7 @@ fn sums_through(table: &Table, left: u8, right: u8, span: Span) -> Option<u8>
     requires worth { span.worth < 5000 }
     ensures { MatchOption result ((u : ℕ) → u < table.now.scope.states → Sums table.now left right span.from span.to span.worth u → ⊥) (λ u. (u < table.now.scope.states) × Sums table.now left right span.from span.to span.worth u) }
 {
-    for through in 0..table.states() {
-        if sums_by(table, left, right, span, through) {
-            return Some(through);
-        }
-    }
-    None
+    (0..table.states()).find(|through| sums_by(table, left, right, span, *through))
 }
 
 // A way by the rule to the fact of its head between the two states from facts with fewer steps.

@@ -50,6 +50,7 @@ fn split<L: UntilLanguage>(table: &Table, language: &Fitting<L>, fact: Fact) -> 
         to: fact.to,
         worth,
     };
+    // a loop: with `find_map` it was not shown of its closure that the rule is one of the language
     for rule in language.rules() {
         if let Some(found) = shrink_in(table, rule, span, mask) {
             return found;
