@@ -10,9 +10,9 @@ use Rattle.model.specs.Triples.{InRow}
 use Rattle.model.specs.Edges.{Inside, no_edge}
 use Rattle.model.specs.Models.{HasEdge, edges_of}
 use Rattle.model.specs.Relations.{Among, Joined, Upto, Exactly}
-use Rattle.model.proofs.Joins.{joined_more, joined_like, joined_exact, among_more, among_exact}
-use Rattle.language.specs.Tables.{Table, step, Complete}
-use Rattle.charts.specs.Arrows.{Into, Out, Back, BackFrom}
+use Rattle.model.proofs.Joins.{joined_more, joined_like, among_more, among_exact}
+use Rattle.language.specs.Tables.{Table, Complete}
+use Rattle.charts.specs.Arrows.{Into, Out}
 
 pub triple_is : (x : ℕ × ℕ × ℕ) (a b c : ℕ) → x.0 ≡ a → x.1 ≡ b → x.2 ≡ c → ◌≡◌ {A = ℕ × ℕ × ℕ} x (a, b, c)
 triple_is x a b c e f g = let P : ℕ → ℕ → ℕ → ℕ × ℕ × ℕ = λ k m n. (k, m, n) in ap (λ n. P n x.1 x.2) e ∙ ap (λ n. P a n x.2) f ∙ ap (λ n. P a b n) g
@@ -45,15 +45,3 @@ out_exact m ex x = (λ q. let (e, h, is) = (ex x).0 q in subst (Out m) (sym is) 
 -- a complete table has the step
 pub step_there : (n : ℕ) (t : Table) → Complete n t → (q a : ℕ) → q < t.states → a < n → t.next q a ≡ None → ⊥
 step_there n t whole q a b c e = let (r, is, l) = whole.leads q a b c in let z : ◌≡◌ {A = ℕ} 0 1 = cc in omega arith
-
--- the steps from one watcher state
-pub steps_from : (n : ℕ) (t : Table) (q k : ℕ) {P Q : ℕ × ℕ × ℕ → Type 0} → n ≤ k → k ≤ n → Joined P Q (Upto (λ a x. x ≡ (a, step t q a, q)) k) → Joined P Q (BackFrom n t q)
-steps_from n t q k low high j = joined_like _ _
-    (λ x m. let (a, l, is) = m in (ap (λ z. z.2) is, omega (arith, l, ap (λ z. z.0) is), ap (λ z. step t q z.0) is ∙ sym (ap (λ z. z.1) is)))
-    (λ x m. (x.0, omega (arith, m.1), triple_is x x.0 (step t q x.0) q refl (sym m.2) m.0)) j
-
--- the steps from all of them
-pub steps_all : (n : ℕ) (t : Table) (k : ℕ) {P Q : ℕ × ℕ × ℕ → Type 0} → t.states ≤ k → k ≤ t.states → ((x : ℕ × ℕ × ℕ) → P x → ⊥) → Joined P Q (Upto (λ q. BackFrom n t q) k) → Exactly Q (Back n t)
-steps_all n t k low high none j = joined_exact _ _ none
-    (λ x m. let (q, l, (is, a, s)) = m in (omega (arith, l, is), a, subst (λ r. step t r x.0 ≡ x.1) (sym is) s))
-    (λ x m. (x.2, omega (arith, m.0), (refl, m.1, m.2))) j
