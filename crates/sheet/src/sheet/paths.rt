@@ -14,6 +14,7 @@ use until::satisfying;
 impl Sheet<'_> {
     // A shortest path from the state with its word in the language, the guard at every state before its end and the goal
     // at its end: none, or how many steps of it stand in the step list. Work table and waiting memory are scratch.
+    // Each part of the call is a parameter of its own, as docs/RULES.md gives the call.
     pub fn path<L: UntilLanguage>(
         &self,
         guard: usize,
