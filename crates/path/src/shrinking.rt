@@ -53,13 +53,11 @@ fn steps_on(table: &Table, action: u8, rest: u8, span: Span) -> Option<u8>
     requires worth { 1 < span.worth }
     ensures { MatchOption result ((e : EdgeOf) → HasEdge table.now.scope.ground.now.model e → StepsBy table.now.scope.ground.now.guard action span.from e.to e → entry_of table.now (rest, e.to, span.to) ≢ span.worth - 1) (λ via. (e : EdgeOf) × HasEdge table.now.scope.ground.now.model e × StepsBy table.now.scope.ground.now.guard action span.from via e × (entry_of table.now (rest, via, span.to) ≡ span.worth - 1)) }
 {
-    // a loop: with `find` it was not shown of its closure that the edge is one of the model
-    for edge in table.edges() {
-        if steps_on_by(table, *edge, action, rest, span) {
-            return Some(edge.to);
-        }
-    }
-    None
+    let edge = table
+        .edges()
+        .iter()
+        .find(|edge| steps_on_by(table, **edge, action, rest, span))?;
+    Some(edge.to)
 }
 
 // Whether the two parts through the state have at least a step each, and together as many as the entry says.
