@@ -50,7 +50,7 @@ fn split<L: UntilLanguage>(table: &Table, language: &Fitting<L>, fact: Fact) -> 
         to: fact.to,
         worth,
     };
-    // a loop: with `find_map` it was not shown of its closure that the rule is one of the language
+    // a loop: with `find_map` the proof did not close, since std has no law of what it finds along an iterator
     for rule in language.rules() {
         if let Some(found) = shrink_in(table, rule, span, mask) {
             return found;

@@ -1,5 +1,5 @@
 // Lowering by the rules that have a fact as a part.
-ghost use Rattle.std.specs.Prelude.{◌≡◌, ℕ, ◌<◌, ◌≤◌, length};
+ghost use Rattle.std.specs.Prelude.{◌<◌};
 ghost use Rattle.language.specs.Rules.{SymbolsBelow};
 ghost use Rattle.language.specs.declared.rule.Rule.TheVariants.{Pair};
 ghost use Rattle.least.specs.Entries.{triple, In};

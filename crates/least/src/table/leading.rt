@@ -1,5 +1,5 @@
 // Lowering by lead rules: along an edge first, and then by a fact.
-ghost use Rattle.std.specs.Prelude.{◌≡◌, ℕ, ◌<◌, ◌≤◌, length};
+ghost use Rattle.std.specs.Prelude.{◌≡◌, ◌<◌};
 ghost use Rattle.model.specs.Models.{HasEdge};
 ghost use Rattle.model.specs.Sets.{Has};
 ghost use Rattle.language.specs.declared.rule.Rule.TheVariants.{Lead};

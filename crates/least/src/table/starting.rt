@@ -1,5 +1,5 @@
 // Lowering by the rules that have no part.
-ghost use Rattle.std.specs.Prelude.{◌≡◌, ℕ, ◌<◌, ◌≤◌, length};
+ghost use Rattle.std.specs.Prelude.{◌<◌};
 ghost use Rattle.model.specs.Models.{HasEdge};
 ghost use Rattle.language.specs.Rules.{SymbolsBelow};
 ghost use Rattle.language.specs.declared.rule.Rule.TheVariants.{Empty, Letter};

@@ -1,5 +1,5 @@
 // Lowering by all rules.
-ghost use Rattle.std.specs.Prelude.{◌≡◌, ℕ, ◌*◌, ◌<◌, ◌≤◌, length, slice_index};
+ghost use Rattle.std.specs.Prelude.{ℕ, ◌<◌};
 ghost use Rattle.language.specs.Rules.{SymbolsBelow, RulesWithin};
 ghost use Rattle.least.specs.Entries.{triple, In};
 ghost use Rattle.least.specs.Lowering.{Always, Run, ShutIn, ShutRule, ShutAll, ShutStarts};
