@@ -3,7 +3,7 @@ ghost use Rattle.std.specs.Prelude.{◌≡◌, length};
 
 use model::NumberSet;
 
-// For each watcher state the set of states.
+// For each watcher state the set of states. A `TripleSet` of one first number alone would have sixteen times the rows.
 #[derive(Drop)]
 pub struct Positions {
     rows: [NumberSet; 32],
