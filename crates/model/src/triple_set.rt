@@ -7,7 +7,7 @@ ghost use Rattle.model.specs.Triples.{Triple, row_of, Holds, size, InRow, Throug
 use crate::number_set::NumberSet;
 
 // Triples with a first number below 16 and the others below 32: for each first and second number the set of the third.
-// Their methods ask for such numbers.
+// Their methods ask for such numbers. The rows stand in one array, since whole sets are joined and counted row by row.
 #[derive(Clone, Copy)]
 pub struct TripleSet {
     rows: [NumberSet; 512],

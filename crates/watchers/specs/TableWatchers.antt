@@ -1,5 +1,5 @@
 -- Table watchers: their words, their table, and what the calls do.
-use Rattle.std.specs.Prelude.{◌≡◌, ℕ, ◌+◌, ◌*◌, ◌<◌, ◌≤◌, Bool, true, false, cond, ◌&&◌, ◌≢◌, ◌⊎◌, [], ◌∷◌, Some, None, Option, nat_lt, slice_index, slice_index_or}
+use Rattle.std.specs.Prelude.{◌≡◌, ℕ, ◌<◌, ◌≤◌, Bool, true, false, cond, ◌&&◌, ◌≢◌, ◌⊎◌, [], ◌∷◌, Some, None, Option, nat_lt, slice_index, slice_index_or}
 use Rattle.model.specs.Refusals.{Refuse, Accept}
 use Rattle.model.specs.Sizes.{Outside}
 use Rattle.language.specs.Words.{Word, Known}
@@ -8,7 +8,7 @@ use Rattle.watchers.specs.declared.table_watcher.TableWatcher.{TableWatcher}
 
 -- the stored state after state q and action a
 abbrev pub next_of : TableWatcher → ℕ → ℕ → ℕ
-next_of t q a = slice_index t.nexts (q * 16 + a)
+next_of t q a = slice_index (slice_index_or t.nexts q []) a
 
 -- whether state q is marked
 abbrev pub mark_of : TableWatcher → ℕ → Bool

@@ -1,20 +1,21 @@
 // A watcher whose table is stored.
-ghost use Rattle.std.specs.Prelude.{◌≡◌, ℕ, ◌<◌, ◌≤◌, length, slice_index};
+ghost use Rattle.std.specs.Prelude.{◌≡◌, ℕ, ◌<◌, ◌≤◌, [], length, slice_index, slice_index_or};
 
-// The state after state q and action a stands at place 16 q + a of `nexts`.
+// The state after state q and action a stands at place a of row q of `nexts`.
 #[derive(Drop)]
 pub struct TableWatcher {
     states: u8,
     actions: u8,
-    nexts: [u8; 512],
+    nexts: [[u8; 16]; 32],
     marks: [bool; 32],
     ghost some_state: { 1 ≤ states },
     ghost few_states: { states ≤ 32 },
     ghost some_action: { 1 ≤ actions },
     ghost few_actions: { actions ≤ 16 },
-    ghost all_nexts: { length nexts ≡ 512 },
+    ghost all_nexts: { length nexts ≡ 32 },
+    ghost all_actions: { (q : ℕ) → q < 32 → length (slice_index_or nexts q []) ≡ 16 },
     ghost all_marks: { length marks ≡ 32 },
-    ghost inside: { (k : ℕ) → slice_index nexts k < states },
+    ghost inside: { (q a : ℕ) → slice_index (slice_index_or nexts q []) a < states },
 }
 
 mod telling;

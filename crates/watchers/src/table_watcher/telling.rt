@@ -48,7 +48,7 @@ impl Watcher for TableWatcher {
 
     fn next(&self, state: u8, action: u8) -> Option<u8> {
         if state < self.states && action < self.actions {
-            Some(self.nexts[state as usize * 16 + action as usize])
+            Some(self.nexts[state as usize][action as usize])
         } else {
             None
         }

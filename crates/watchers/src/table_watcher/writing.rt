@@ -21,7 +21,7 @@ impl TableWatcher {
         TableWatcher {
             states: states.get(),
             actions: actions.get(),
-            nexts: [0; 512],
+            nexts: [[0; 16]; 32],
             marks: [false; 32],
         }
     }
@@ -46,7 +46,7 @@ impl TableWatcher {
         if state >= self.states || to >= self.states {
             return Err(Refusal::NoSuchSymbol);
         }
-        self.nexts[state as usize * 16 + action as usize] = to;
+        self.nexts[state as usize][action as usize] = to;
         Ok(())
     }
 
