@@ -6,6 +6,7 @@ use language::Rule;
 use model::RecordSet;
 
 // Its words are those that they derive from symbol 0.
+// The numbers of symbols and actions stand as numbers with their facts, and not as sizes: contracts speak of them as numbers.
 #[derive(Drop)]
 pub struct Grammar {
     symbols: u8,

@@ -3,16 +3,16 @@
 
 mod alphabet;
 mod fitting;
-mod fitting_watcher;
 mod rule;
 mod rules;
 mod until_language;
 mod watcher;
+mod watcher_limit;
 
 pub use alphabet::Alphabet;
 pub use fitting::Fitting;
-pub use fitting_watcher::FittingWatcher;
 pub use rule::Rule;
 pub use rules::Rules;
 pub use until_language::UntilLanguage;
 pub use watcher::Watcher;
+pub use watcher_limit::check_states;

@@ -7,6 +7,7 @@ use crate::record_set::RecordSet;
 use crate::state_record::StateRecord;
 
 // States and actions are numbered from 0, and each edge is inside them.
+// The numbers of states and actions stand as numbers with their facts, and not as sizes: contracts speak of them as numbers.
 #[derive(Drop)]
 pub struct Model {
     states: u8,

@@ -113,7 +113,8 @@ impl NumberSet {
         self.without(self.without(other))
     }
 
-    // Takes the highest number out of the set.
+    // Takes the highest number out of the set. A set is gone over by taking its numbers out of a copy, which needs no list
+    // of them behind an iterator.
     pub fn take_last(&mut self) -> Option<u8>
         ensures { MatchOption result ((self.old ≡ nothing) × (self.new ≡ nothing)) (λ t. (t < 32) × Joined (Has self.new) (Has self.old) (λ u. u ≡ t) × (self.new.bits < self.old.bits) × ((u : ℕ) → Has self.new u → u < t)) }
     {

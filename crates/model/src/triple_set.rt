@@ -72,7 +72,7 @@ impl TripleSet {
         found
     }
 
-    // How many triples there are.
+    // How many triples there are. A loop: the bound of its sum is the invariant, which `sum` would want from its caller.
     pub fn count(&self) -> u32
         ensures size { result ≡ size self.now.rows 512 }
         ensures most { result ≤ 16384 }

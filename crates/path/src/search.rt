@@ -1,4 +1,5 @@
 // The search for a shortest path into the goal.
+// Table and language stand apart in each call: a struct of both would have to say in each contract that the language stays.
 ghost use Rattle.std.specs.Prelude.{◌≡◌, ℕ, ◌+◌, ◌*◌, ◌<◌, ◌≤◌, ◌==◌, ◌&&◌, min, true, not, nat_lt, length, filter, count_by, IfSome, MatchResult};
 ghost use Rattle.std.specs.List.{reduce};
 ghost use Rattle.model.specs.Relations.{Exactly};

@@ -1,4 +1,5 @@
 // A sheet: a model and the questions asked of it.
+ghost use Rattle.std.specs.Prelude.{◌≤◌, length};
 ghost use Rattle.sheet.specs.Orders.{PartsLower, MarksWithin};
 
 use crate::question::Question;
@@ -11,6 +12,7 @@ use model::Model;
 pub struct Sheet<'m> {
     model: &'m Model,
     questions: ArrayVec<Question, 64>,
+    ghost room: { length questions.items ≤ 64 },
     ghost lower: { PartsLower questions.items },
     ghost within: { MarksWithin model.now.states questions.items },
 }

@@ -4,7 +4,7 @@ ghost use Rattle.model.specs.Refusals.{refusal};
 ghost use Rattle.language.specs.Words.{Known};
 ghost use Rattle.language.specs.Limits.{CauseManyStates};
 
-use language::{FittingWatcher, Watcher};
+use language::{Watcher, check_states};
 use model::Refusal;
 
 // Runs the watcher over the word; one with more than 32 states is refused, and a word of the set has known actions alone.
@@ -13,7 +13,7 @@ pub fn accepts<W: Watcher>(watcher: &W, word: &[u8]) -> Result<bool, Refusal>
     ensures right { IfOk result (λ yes. Decides yes (W.Watcher.words watcher.now word.now)) }
     ensures known { result ≡ Ok true → Known (W.Alphabet.known watcher.now) word.now }
 {
-    FittingWatcher::of(watcher)?;
+    check_states(watcher)?;
     let mut state = watcher.start();
     for action in word {
         match watcher.next(state, *action) {

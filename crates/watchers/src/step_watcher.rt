@@ -2,6 +2,7 @@
 ghost use Rattle.std.specs.Prelude.{◌<◌, ◌≤◌};
 
 // Its words are those whose length leaves `remainder` when it is divided by `modulus`.
+// The modulus and the number of actions stand as numbers with their facts, since contracts speak of them as numbers.
 #[derive(Clone, Copy)]
 pub struct StepWatcher {
     modulus: u8,

@@ -2,6 +2,8 @@
 ghost use Rattle.std.specs.Prelude.{◌≡◌, ℕ, ◌<◌, ◌≤◌, [], length, slice_index, slice_index_or};
 
 // The state after state q and action a stands at place a of row q of `nexts`.
+// The numbers of states and actions stand as numbers with their facts, and not as sizes: contracts speak of them as numbers.
+// Marks stand beside the rows, since a row of its own type would be written by two methods with a frame each.
 #[derive(Drop)]
 pub struct TableWatcher {
     states: u8,

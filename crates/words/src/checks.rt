@@ -7,6 +7,7 @@ use anyhow::bail;
 use model::Refusal;
 use std::io;
 
+// The program `cases` has a report of its own kind: the two are programs, and no crate holds what only they need.
 #[derive(Drop)]
 pub struct Checks<'a> {
     rt: &'a HostRuntime,

@@ -3,7 +3,7 @@ ghost use Rattle.model.specs.Refusals.{refusal, Refuse};
 ghost use Rattle.language.specs.Limits.{CauseManyStates};
 
 use crate::watched::Watched;
-use language::{FittingWatcher, Watcher};
+use language::{Watcher, check_states};
 use model::{Model, Refusal};
 
 impl<'a, W: Watcher> Watched<'a, W> {
@@ -16,7 +16,7 @@ impl<'a, W: Watcher> Watched<'a, W> {
         if watcher.action_count() != model.actions() {
             return Err(Refusal::OtherAlphabet);
         }
-        FittingWatcher::of(watcher)?;
+        check_states(watcher)?;
         Ok(Watched { watcher, model })
     }
 }

@@ -67,7 +67,8 @@ impl Table<'_> {
         fell
     }
 
-    // By a pair rule, where the fact can be its first part.
+    // By a pair rule, where the fact can be its first part. The two parts have functions of their own, since they promise
+    // different things: of the first, that nothing is left to lower.
     fn expand_first(&mut self, top: u16, fact: Fact, head: u8, left: u8, right: u8) -> bool
         requires fact { In self.old.scope (triple fact) }
         requires within { SymbolsBelow self.old.scope.symbols (Pair head left right) }

@@ -43,7 +43,7 @@ impl<'a, W: Watcher> Search<'a, W> {
     }
 
     // Finds a position and lays it on the pile.
-    pub fn doom(&mut self, position: Position)
+    pub(crate) fn doom(&mut self, position: Position)
         requires inside { IsInside self.old.setting position }
         requires new { Holds self.old.found.rows (pair position) → ⊥ }
         ensures { Finds (λ p. p ≡ pair position) self.old self.new }

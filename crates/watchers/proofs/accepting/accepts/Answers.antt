@@ -24,7 +24,7 @@ returns-in-None g c =
     let t = g.W.Watcher.table l in
     let w = c.args.word.now in
     let i = c.loop-action.action-index in
-    let few : t.states ≤ 32 = c.in_ok-of.ensures.limit in
+    let few : t.states ≤ 32 = c.in_ok-check_states.ensures.limit in
     let e : step t c.loop-action.state (get_or w i 0) ≡ t.states = ap (λ o. unwrap_or o t.states) (sym c.next.ensures ∙ c.in-None.is) in
     let lost : run t t.start w ≡ run t t.states (drop (i + 1) w) = sym c.loop-action.invariant ∙ at_drop_more (run t c.loop-action.state) w i 0 c.loop-action-test.true ∙ ap (λ q. run t q (drop (i + 1) w)) e in
     record {
@@ -38,7 +38,7 @@ returns g c =
     let l = c.args.watcher.now in
     let t = g.W.Watcher.table l in
     let w = c.args.word.now in
-    let few : t.states ≤ 32 = c.in_ok-of.ensures.limit in
+    let few : t.states ≤ 32 = c.in_ok-check_states.ensures.limit in
     let end : run t t.start w ≡ c.loop-action.state = sym c.loop-action.invariant ∙ at_drop_all (run t c.loop-action.state) w c.loop-action.action-index c.loop-action-test.false in
     let same : t.marked (run t t.start w) ≡ c.is_marked.result = ap t.marked end ∙ sym c.is_marked.ensures in
     record {
