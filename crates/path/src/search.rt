@@ -59,7 +59,7 @@ fn nearest(table: &Table, top: u32, aim: Aim) -> Option<u8>
     ensures { Best table.now aim.goal aim.state top table.now.scope.states result }
 {
     let mut best = None;
-    // a loop, and no `fold`: the next turn asks what is known of the best so far, which only a loop's invariant says
+    // a loop, and no `fold` or `min_by_key`: the next turn asks what is known of the best so far, which only an invariant says
     for to in 0..table.states() {
         best = closer(table, top, aim, to, best);
     }

@@ -2,7 +2,8 @@
 ghost use Rattle.std.specs.Prelude.{◌≡◌, ◌+◌, ◌*◌, ◌≤◌};
 
 // For each symbol and from-state as many entries as there are states, one for each to-state. The table stays a slice
-// beside it: callers promise what stands in the slice afterwards, which a struct that borrows it would hide.
+// beside it: callers promise what stands in the slice afterwards, which a struct that borrows it would hide. The tables of
+// `least` have the same order, which its `Scope` reaches by a fact.
 #[derive(Clone, Copy)]
 pub(crate) struct Layout {
     pub(crate) symbols: u8,

@@ -68,7 +68,7 @@ impl Table<'_> {
         ensures { result ≡ false → (k : ℕ) → k < self.now.scope.states → Lower top known (slice_index self.now.entries.now (others + k)) (slice_index self.now.entries.now (heads + k)) → ⊥ }
     {
         let mut lower = false;
-        // all are looked at, so that several are at once: `any` would stop at each
+        // by place: a chain over both rows would first cut two slices out of the table, with a bound for each
         for k in 0..self.states() as usize {
             lower |= is_lower(
                 top,
