@@ -46,6 +46,7 @@ impl<T: Answer> fmt::Display for Outcome<T> {
     }
 }
 
+// The program `words` has checks of its own kind: the two are programs, and no crate holds what only they need.
 #[derive(Drop)]
 pub struct Report<'a> {
     rt: &'a HostRuntime,

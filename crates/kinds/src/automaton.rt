@@ -5,7 +5,8 @@ ghost use Rattle.model.specs.Edges.{AllInside};
 use model::{Edge, RecordSet};
 
 // A run starts in state 0, and its word is in the set where it ends in a final state.
-// The numbers of states and actions stand as numbers with their facts, and not as sizes: contracts speak of them as numbers.
+// The numbers of states and actions stand as numbers with their facts: a size in a field would put a step
+// between each clause and the number that it speaks of.
 // The final states are marks by number, since what is told goes over them in rising order.
 #[derive(Drop)]
 pub struct Automaton {

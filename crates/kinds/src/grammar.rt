@@ -6,7 +6,8 @@ use language::Rule;
 use model::RecordSet;
 
 // Its words are those that they derive from symbol 0.
-// The numbers of symbols and actions stand as numbers with their facts, and not as sizes: contracts speak of them as numbers.
+// The numbers of symbols and actions stand as numbers with their facts: a size in a field would put a step
+// between each clause and the number that it speaks of.
 #[derive(Drop)]
 pub struct Grammar {
     symbols: u8,

@@ -34,6 +34,7 @@ impl Rule {
     }
 }
 
+// By hand: a derive takes a case without fields alone.
 impl Default for Rule {
     fn default() -> Rule {
         Rule::Empty { head: 0 }

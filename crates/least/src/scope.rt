@@ -3,7 +3,8 @@ ghost use Rattle.std.specs.Prelude.{◌≡◌, ◌≤◌};
 
 use logic::GuardedModel;
 
-// A model with a guard, and how many symbols there are; `states` is the model's number of states.
+// A model with a guard, and how many symbols there are; `states` is the model's number of states,
+// kept beside it since each access of an entry needs it.
 #[derive(Drop)]
 pub struct Scope<'a> {
     ground: &'a GuardedModel<'a>,

@@ -3,6 +3,7 @@ ghost use Rattle.std.specs.Prelude.{◌*◌, ◌≤◌, length};
 
 use crate::scope::Scope;
 
+// Numbers with 0 for none, since the caller lends a table of numbers.
 // The entries of the facts of a scope: 0 for none, and otherwise one more than the steps of a path behind the fact.
 #[derive(Drop)]
 pub struct Table<'a> {

@@ -7,7 +7,8 @@ use crate::record_set::RecordSet;
 use crate::state_record::StateRecord;
 
 // States and actions are numbered from 0, and each edge is inside them.
-// The numbers of states and actions stand as numbers with their facts, and not as sizes: contracts speak of them as numbers.
+// The numbers of states and actions stand as numbers with their facts: a size in a field would put a step
+// between each clause and the number that it speaks of.
 #[derive(Drop)]
 pub struct Model {
     states: u8,

@@ -1,4 +1,5 @@
-// Two states, and the entry of a fact between them. Its bounds are those of a table, and stand in the contracts that have one.
+// Two states, and the entry of a fact between them. A span has no table, and so cannot
+// say its bounds: each contract that has a table says them.
 #[derive(Clone, Copy, PartialEq, Eq, Debug)]
 pub struct Span {
     pub from: u8,

@@ -1,4 +1,5 @@
-// What one rule adds to a table of found facts.
+// What one rule adds to a table of found facts. That its symbols are below 16 is asked of each step, since a rule does not
+// know its language; lefts and rights of a pair stand apart, since either can be the fresh ones.
 ghost use Rattle.std.specs.Prelude.{◌<◌, ◌≤◌};
 ghost use Rattle.model.specs.Relations.{Joined, Exactly};
 ghost use Rattle.model.specs.Sets.{Has};

@@ -2,8 +2,10 @@
 ghost use Rattle.std.specs.Prelude.{◌≡◌, ℕ, ◌<◌, ◌≤◌, [], length, slice_index, slice_index_or};
 
 // The state after state q and action a stands at place a of row q of `nexts`.
-// The numbers of states and actions stand as numbers with their facts, and not as sizes: contracts speak of them as numbers.
-// Marks stand beside the rows, since a row of its own type would be written by two methods with a frame each.
+// The numbers of states and actions stand as numbers with their facts: a size in a field would put a step
+// between each clause and the number that it speaks of.
+// The marks are flags by number, as the steps are rows by number: a row of a type of its own would be written by two
+// methods with a frame each, and a set would have to be tied to the number of states.
 #[derive(Drop)]
 pub struct TableWatcher {
     states: u8,

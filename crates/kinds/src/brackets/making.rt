@@ -24,7 +24,7 @@ impl Brackets {
         Ok(Brackets { up, down, actions })
     }
 
-    // The actions other than up and down, as marks.
+    // The actions other than up and down, as marks by number, in whose order they are told.
     pub(crate) fn others(&self) -> [bool; 16]
         ensures long { length result ≡ 16 }
         ensures marks { (a : ℕ) → a < 16 → slice_index_or result a false ≡ other_action self.now a }

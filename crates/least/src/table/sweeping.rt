@@ -73,7 +73,8 @@ impl Table<'_> {
         }
     }
 
-    // Lowers by the rules with the facts that have an entry in the band. `start` has a loop of its own, of one line: one with the
+    // Lowers by the rules with the facts that have an entry in the band. `start`, and the other functions that go over rows
+    // or edges, have a loop of their own, of one line: one with the
     // turn as a closure over the table would have to say in its contract what each call does to the table.
     pub fn sweep<L: UntilLanguage>(&mut self, rules: Rules<L>, top: u16, band: Band) -> bool
         requires { RulesWithin self.old.scope.symbols rules }

@@ -53,6 +53,7 @@ impl<'a, W: Watcher> Search<'a, W> {
     }
 
     // Finds the positions of the states, none of which is found, with one watcher state, and lays them on the pile.
+    // `visit_states` has the same loop round another call, and says why the two stay apart.
     fn doom_states(&mut self, watch: u8, states: NumberSet)
         requires watch { watch < (table_of self.old.setting).states }
         requires states { (s : ℕ) → Has states s → s < (model_of self.old.setting).states }
