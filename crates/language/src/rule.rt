@@ -1,5 +1,6 @@
 ghost use Rattle.std.specs.Prelude.{◌≡◌};
 ghost use Rattle.language.specs.Rules.{head_of};
+ghost use Rattle.language.specs.declared.rule.Rule.TheVariants.{Empty};
 ghost use Rattle.std.proofs.Common.{rules};
 
 use model::Record;
@@ -36,6 +37,8 @@ impl Rule {
 
 // By hand: a derive takes a case without fields alone.
 impl Default for Rule {
+    ghost is_default = { λ rule. rule ≡ Empty 0 };
+
     fn default() -> Rule {
         Rule::Empty { head: 0 }
     }
