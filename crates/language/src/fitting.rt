@@ -11,7 +11,8 @@ use crate::until_language::UntilLanguage;
 use model::Refusal;
 use std::marker::Model;
 
-// An until language with at most 16 symbols and 128 rules, so that all its laws are owed. It is seen as that language.
+// An until language with at most 16 symbols and 128 rules, so that all its laws are owed: its words are those that its rules
+// derive. It is seen as that language.
 #[derive(Drop)]
 pub struct Fitting<'a, L: UntilLanguage> {
     language: &'a L,
@@ -33,6 +34,7 @@ impl<'a, L: UntilLanguage> Fitting<'a, L> {
         ensures cause { CauseLarge (L.symbols language.now) (L.rules language.now) (refusal result) }
         ensures same { IfOk result (λ f. f ≡ language.now) }
         ensures limits { IfOk result (λ f. WithinLimits (L.symbols f) (L.rules f)) }
+        ensures derived { IfOk result (λ f. Exactly (L.words f) (Derives (L.rules f) 0)) }
     {
         if language.symbol_count() > 16 || language.rule_count() > 128 {
             return Err(Refusal::TooLarge);
@@ -44,6 +46,7 @@ impl<'a, L: UntilLanguage> Fitting<'a, L> {
     pub fn symbols(&self) -> u8
         ensures count { result ≡ L.symbols self.now }
         ensures limits { WithinLimits (L.symbols self.now) (L.rules self.now) }
+        ensures derived { Exactly (L.words self.now) (Derives (L.rules self.now) 0) }
     {
         self.language.symbol_count() as u8
     }
@@ -53,14 +56,8 @@ impl<'a, L: UntilLanguage> Fitting<'a, L> {
         ensures rules { result ≡ L.rules self.now }
         ensures limits { WithinLimits (L.symbols self.now) (L.rules self.now) }
         ensures named { RulesWithin (L.symbols self.now) (L.rules self.now) }
+        ensures derived { Exactly (L.words self.now) (Derives (L.rules self.now) 0) }
     {
         Rules::of(self.language)
-    }
-
-    // Its words are those that its rules derive. The call does nothing but say so.
-    pub fn derived(&self)
-        ensures { Exactly (L.words self.now) (Derives (L.rules self.now) 0) }
-    {
-        let _ = &self.language;
     }
 }

@@ -1,6 +1,7 @@
 // All facts of a language on a guarded model.
 ghost use Rattle.std.specs.Prelude.{◌≡◌, ℕ, ◌*◌, ◌<◌, ◌≤◌, length, slice_index};
 ghost use Rattle.model.specs.Relations.{Exactly};
+ghost use Rattle.language.specs.Derivations.{Derives};
 ghost use Rattle.logic.specs.Facts.{Fact, LeastHeight};
 ghost use Rattle.model.specs.Triples.{Holds};
 ghost use Rattle.until.specs.Notes.{spot};
@@ -15,6 +16,7 @@ use model::TripleSet;
 
 // All facts, round by round until a round finds no more; each fact is combined with the others in one round only.
 // The work table gets the least height of each fact, which is the round in which it came, and 0 where there is none.
+// The words that symbol 0 derives are those of the language.
 // Another crate of ours calls this, and checks the size of the table.
 pub fn fill<L: UntilLanguage>(
     language: &Fitting<L>,
@@ -23,6 +25,7 @@ pub fn fill<L: UntilLanguage>(
 ) -> TripleSet
     requires { L.symbols language.now * guarded.now.model.states * guarded.now.model.states ≤ length work.old }
     ensures facts { Exactly (Holds result.rows) (Fact guarded.now (L.rules language.now)) }
+    ensures derived { Exactly (L.words language.now) (Derives (L.rules language.now) 0) }
     ensures heights { (k : ℕ) → k < L.symbols language.now * guarded.now.model.states * guarded.now.model.states → LeastHeight guarded.now (L.rules language.now) (spot guarded.now.model.states k) (slice_index work.new k) }
     ensures others { (k : ℕ) → L.symbols language.now * guarded.now.model.states * guarded.now.model.states ≤ k → slice_index work.new k ≡ slice_index work.old k }
 {

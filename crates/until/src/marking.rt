@@ -33,7 +33,6 @@ pub fn satisfying<L: UntilLanguage>(
     ensures words { Exactly (Has result) (λ s. (s < guarded.now.model.states) × SomeGood guarded.now.model (Has guarded.now.guard) (Has goal) (L.words language.now) s) }
     ensures others { (k : ℕ) → L.symbols language.now * guarded.now.model.states * guarded.now.model.states ≤ k → slice_index work.new k ≡ slice_index work.old k }
 {
-    language.derived();
     let table = fill(language, guarded, work);
     reaching(&table, goal, guarded.states())
 }

@@ -98,6 +98,7 @@ returns-then-grown-size g c =
     let e = cells _ _ _ _ c.symbols.ensures.count c.states.ensures.count in
     record {
       facts = facts;
+      derived = c.symbols.ensures.derived;
       heights = λ k l. subst (λ n. LeastHeight G R (spot n k) (get_or c.loop-size.work k 0)) c.states.ensures.count
           (entry_end G R h F all inv.1 same facts (spot c.states.result k) (get_or c.loop-size.work k 0) (inv.3 k (omega arith)));
       others = λ k l. inv.4 k (omega arith) ∙ elim (c.clear.ensures k) [ inl y ↦ let b = y.0 in absurd (omega (arith, c.entries.ensures)) | inr o ↦ o.1 ];

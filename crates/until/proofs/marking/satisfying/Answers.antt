@@ -10,6 +10,6 @@ returns g c =
     let derived = reach_exact guarded.model guarded.guard c.args.goal R (Holds c.fill-table.result.rows) c.reaching.result c.states.result c.states.ensures.count c.fill-table.ensures.facts c.reaching.ensures in
     record {
       derived = derived;
-      words = words_exact guarded.model guarded.guard c.args.goal R (g.L.UntilLanguage.words l) c.reaching.result (λ w. (c.derived.ensures w).0) (λ w. (c.derived.ensures w).1) derived;
+      words = words_exact guarded.model guarded.guard c.args.goal R (g.L.UntilLanguage.words l) c.reaching.result (λ w. (c.fill-table.ensures.derived w).0) (λ w. (c.fill-table.ensures.derived w).1) derived;
       others = c.fill-table.ensures.others;
     }
