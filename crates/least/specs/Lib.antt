@@ -1,3 +1,4 @@
 pub mod Walks
 pub mod Entries
 pub mod Lowering
+pub mod Bands

@@ -101,17 +101,9 @@ fn sweep_level<L: UntilLanguage>(
 {
     let before = count_at(table.entries(), level);
     let band = if before > 512 {
-        Band {
-            low: 1,
-            high: level,
-            both: false,
-        }
+        Band::UpTo(level)
     } else {
-        Band {
-            low: level,
-            high: level,
-            both: true,
-        }
+        Band::At(level)
     };
     let fell = table.sweep(language.rules(), top, band);
     fell && count_at(table.entries(), level) > before
@@ -149,11 +141,7 @@ fn settle<L: UntilLanguage>(table: &mut Table, language: &Fitting<L>, top: u16)
     ensures sound { Sound (L.rules language.now) table.old → Sound (L.rules language.now) table.new }
     ensures closed { Closed (L.rules language.now) top table.new }
 {
-    let band = Band {
-        low: 1,
-        high: top as u32,
-        both: false,
-    };
+    let band = Band::UpTo(top as u32);
     loop {
         let first = table.start(language.rules(), top);
         let second = table.sweep(language.rules(), top, band);

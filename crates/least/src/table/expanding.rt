@@ -5,6 +5,7 @@ ghost use Rattle.language.specs.declared.rule.Rule.TheVariants.{Pair};
 ghost use Rattle.least.specs.Entries.{triple, In};
 ghost use Rattle.least.specs.Lowering.{Always, Anyhow, ShutAt, ShutOn};
 
+use crate::band::Band;
 use crate::fact::Fact;
 use crate::table::Table;
 use language::Rule;
@@ -67,33 +68,9 @@ impl Table<'_> {
         fell
     }
 
-    // By a pair rule, where the fact can be its first part. The two parts have functions of their own, since they promise
-    // different things: of the first, that nothing is left to lower.
-    fn expand_first(&mut self, top: u16, fact: Fact, head: u8, left: u8, right: u8) -> bool
-        requires fact { In self.old.scope (triple fact) }
-        requires within { SymbolsBelow self.old.scope.symbols (Pair head left right) }
-        ensures { Always (Pair head left right) (ShutAt top (Pair head left right) (triple fact)) self.old self.new result }
-    {
-        if left != fact.symbol {
-            return false;
-        }
-        self.expand_left(top, fact, head, right)
-    }
-
-    // By a pair rule, where the fact can be its second part.
-    fn expand_second(&mut self, top: u16, fact: Fact, head: u8, left: u8, right: u8) -> bool
-        requires fact { In self.old.scope (triple fact) }
-        requires within { SymbolsBelow self.old.scope.symbols (Pair head left right) }
-        ensures { Always (Pair head left right) Anyhow self.old self.new result }
-    {
-        if right != fact.symbol {
-            return false;
-        }
-        self.expand_right(top, fact, head, left)
-    }
-
-    // By a same or pair rule, where the fact can be a part of it; as the second part of a pair only if `both` is set.
-    pub(crate) fn expand(&mut self, top: u16, fact: Fact, rule: Rule, both: bool) -> bool
+    // By a same or pair rule, where the fact can be a part of it; as the second part of a pair only if the band takes those.
+    // A turn as the first part leaves nothing to lower; one as the second part promises no such thing.
+    pub(crate) fn expand(&mut self, top: u16, band: Band, fact: Fact, rule: Rule) -> bool
         requires fact { In self.old.scope (triple fact) }
         requires within { SymbolsBelow self.old.scope.symbols rule }
         ensures { Always rule (ShutOn top rule (triple fact)) self.old self.new result }
@@ -111,11 +88,11 @@ impl Table<'_> {
                 self.lift(top, part, 0, cell)
             }
             Rule::Pair { head, left, right } => {
-                let first = self.expand_first(top, fact, head, left, right);
-                if !both {
+                let first = left == fact.symbol && self.expand_left(top, fact, head, right);
+                if !band.takes_seconds() {
                     return first;
                 }
-                let second = self.expand_second(top, fact, head, left, right);
+                let second = right == fact.symbol && self.expand_right(top, fact, head, left);
                 first | second
             }
             Rule::Empty { .. } | Rule::Letter { .. } | Rule::Lead { .. } => false,

@@ -3,6 +3,7 @@ ghost use Rattle.std.specs.Prelude.{◌≡◌, ◌<◌};
 ghost use Rattle.model.specs.Models.{HasEdge};
 ghost use Rattle.model.specs.Sets.{Has};
 ghost use Rattle.language.specs.declared.rule.Rule.TheVariants.{Lead};
+ghost use Rattle.least.specs.Bands.{low_of, high_of};
 ghost use Rattle.least.specs.Entries.{In};
 ghost use Rattle.least.specs.Lowering.{Always, LedIn, LedAlong, ShutRule};
 
@@ -27,7 +28,7 @@ impl Table<'_> {
         requires guarded { Has self.old.scope.ground.now.guard edge.from }
         requires rest { In self.old.scope (lead.rest, edge.to, to) }
         requires head { lead.head < self.old.scope.symbols }
-        ensures { Always (Lead lead.head lead.action lead.rest) (LedIn top band.low band.high lead.head lead.action lead.rest edge to) self.old self.new result }
+        ensures { Always (Lead lead.head lead.action lead.rest) (LedIn top (low_of band) (high_of band) lead.head lead.action lead.rest edge to) self.old self.new result }
     {
         let part = self.cell(Fact {
             symbol: lead.rest,
@@ -51,7 +52,7 @@ impl Table<'_> {
         requires edge { HasEdge self.old.scope.ground.now.model edge }
         requires head { lead.head < self.old.scope.symbols }
         requires rest { lead.rest < self.old.scope.symbols }
-        ensures { Always (Lead lead.head lead.action lead.rest) (LedAlong top band.low band.high lead.head lead.action lead.rest edge) self.old self.new result }
+        ensures { Always (Lead lead.head lead.action lead.rest) (LedAlong top (low_of band) (high_of band) lead.head lead.action lead.rest edge) self.old self.new result }
     {
         if edge.action != lead.action || !self.admits(edge.from) {
             return false;
@@ -67,7 +68,7 @@ impl Table<'_> {
     pub(crate) fn sweep_lead(&mut self, top: u16, band: Band, lead: Leading) -> bool
         requires head { lead.head < self.old.scope.symbols }
         requires rest { lead.rest < self.old.scope.symbols }
-        ensures { Always (Lead lead.head lead.action lead.rest) (ShutRule top band.low band.high (Lead lead.head lead.action lead.rest)) self.old self.new result }
+        ensures { Always (Lead lead.head lead.action lead.rest) (ShutRule top (low_of band) (high_of band) (Lead lead.head lead.action lead.rest)) self.old self.new result }
     {
         let mut fell = false;
         for edge in self.edges() {

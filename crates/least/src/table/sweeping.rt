@@ -1,6 +1,7 @@
 // Lowering by all rules.
 ghost use Rattle.std.specs.Prelude.{ℕ, ◌<◌};
 ghost use Rattle.language.specs.Rules.{SymbolsBelow, RulesWithin};
+ghost use Rattle.least.specs.Bands.{low_of, high_of};
 ghost use Rattle.least.specs.Entries.{triple, In};
 ghost use Rattle.least.specs.Lowering.{Always, Run, ShutIn, ShutRule, ShutAll, ShutStarts};
 
@@ -15,13 +16,13 @@ impl Table<'_> {
     fn expand_in(&mut self, top: u16, band: Band, rule: Rule, fact: Fact) -> bool
         requires within { SymbolsBelow self.old.scope.symbols rule }
         requires fact { In self.old.scope (triple fact) }
-        ensures { Always rule (ShutIn top band.low band.high rule (triple fact)) self.old self.new result }
+        ensures { Always rule (ShutIn top (low_of band) (high_of band) rule (triple fact)) self.old self.new result }
     {
         let known = self.entry(fact);
         if !band.has(known) {
             return false;
         }
-        self.expand(top, fact, rule, band.both)
+        self.expand(top, band, fact, rule)
     }
 
     // Lowers by the rule with the facts of the symbol from the state as a part.
@@ -29,7 +30,7 @@ impl Table<'_> {
         requires within { SymbolsBelow self.old.scope.symbols rule }
         requires symbol { symbol < self.old.scope.symbols }
         requires from { from < self.old.scope.states }
-        ensures { Always rule (λ w. (t : ℕ) → t < w.scope.states → ShutIn top band.low band.high rule (symbol, from, t) w) self.old self.new result }
+        ensures { Always rule (λ w. (t : ℕ) → t < w.scope.states → ShutIn top (low_of band) (high_of band) rule (symbol, from, t) w) self.old self.new result }
     {
         let mut fell = false;
         for to in 0..self.states() {
@@ -42,7 +43,7 @@ impl Table<'_> {
     fn sweep_part(&mut self, top: u16, band: Band, rule: Rule, symbol: u8) -> bool
         requires within { SymbolsBelow self.old.scope.symbols rule }
         requires symbol { symbol < self.old.scope.symbols }
-        ensures { Always rule (λ w. (s : ℕ) → s < w.scope.states → (t : ℕ) → t < w.scope.states → ShutIn top band.low band.high rule (symbol, s, t) w) self.old self.new result }
+        ensures { Always rule (λ w. (s : ℕ) → s < w.scope.states → (t : ℕ) → t < w.scope.states → ShutIn top (low_of band) (high_of band) rule (symbol, s, t) w) self.old self.new result }
     {
         let mut fell = false;
         for from in 0..self.states() {
@@ -54,7 +55,7 @@ impl Table<'_> {
     // Lowers by the rule with all facts that have an entry in the band.
     fn sweep_rule(&mut self, top: u16, band: Band, rule: Rule) -> bool
         requires { SymbolsBelow self.old.scope.symbols rule }
-        ensures { Always rule (ShutRule top band.low band.high rule) self.old self.new result }
+        ensures { Always rule (ShutRule top (low_of band) (high_of band) rule) self.old self.new result }
     {
         match rule {
             Rule::Lead { head, action, rest } => {
@@ -63,7 +64,7 @@ impl Table<'_> {
             Rule::Same { body, .. } => self.sweep_part(top, band, rule, body),
             Rule::Pair { left, right, .. } => {
                 let first = self.sweep_part(top, band, rule, left);
-                if !band.both || left == right {
+                if !band.takes_seconds() || left == right {
                     return first;
                 }
                 let second = self.sweep_part(top, band, rule, right);
@@ -78,7 +79,7 @@ impl Table<'_> {
     // turn as a closure over the table would have to say in its contract what each call does to the table.
     pub fn sweep<L: UntilLanguage>(&mut self, rules: Rules<L>, top: u16, band: Band) -> bool
         requires { RulesWithin self.old.scope.symbols rules }
-        ensures { Run rules.entry (ShutAll rules.entry top band.low band.high) self.old self.new result }
+        ensures { Run rules.entry (ShutAll rules.entry top (low_of band) (high_of band)) self.old self.new result }
     {
         let mut fell = false;
         for rule in rules {

@@ -1,12 +1,15 @@
-use Rattle.std.proofs.Common.{◌||◌, sym, ap, ◌∙◌, subst}
+use Rattle.std.proofs.Common.{◌≡◌, ℕ, Bool, false, ◌≢◌, ◌⊎◌, inl, inr, rules, sym, ap, ◌∙◌, subst}
 use Rattle.language.specs.Rules.{SymbolsBelow}
+use lib.Dec.{eqb}
+use Rattle.logic.specs.Facts.{Triple}
+use Rattle.least.specs.declared.table.Table.{Table}
 use Rattle.language.specs.declared.rule.Rule.TheVariants.{Same, Pair}
-use Rattle.least.specs.declared.scope.Scope.{Scope}
 use Rattle.least.specs.Entries.{triple}
-use Rattle.least.specs.Lowering.{Always, ShutOn}
-use Rattle.least.proofs.Runs.{run_like, run_both, same_scope}
-use Rattle.least.proofs.Turns.{is_in, in_at, in_table, same_turn}
+use Rattle.least.specs.Lowering.{Always, Anyhow, ShutAt, ShutOn}
+use Rattle.least.proofs.Runs.{run_none, run_like, run_both, same_scope}
+use Rattle.least.proofs.Turns.{is_in, in_table, same_turn}
 use Rattle.least.proofs.table.Table.expand.Goals as goal
+use Rattle.least.proofs.table.Table.expand.Goals.{then-left-fact, else-left-fact, then-right-fact, else-right-fact}
 
 pub lift-requires-clause-part : goal.lift-requires-clause-part
 lift-requires-clause-part c = in_table c.args.self.now _ _ c.requires.fact c.cell-part.ensures
@@ -16,13 +19,6 @@ lift-requires-clause-cell c =
     let wi = subst (SymbolsBelow c.args.self.now.scope.symbols) c.in-Same.is c.requires.within in
     in_table c.args.self.now _ _ (is_in c.args.self.now.scope _ _ _ wi.0 c.requires.fact.from c.requires.fact.to) c.cell-cell.ensures
 
-pub expand_second-second-requires-clause-fact : goal.expand_second-second-requires-clause-fact
-expand_second-second-requires-clause-fact c = in_at _ _ _ (same_scope c.expand_first-first.ensures) c.requires.fact
-
-pub expand_second-second-requires-clause-within : goal.expand_second-second-requires-clause-within
-expand_second-second-requires-clause-within c =
-    subst (λ (z : Scope). SymbolsBelow z.symbols (Pair c.in-Pair.head c.in-Pair.left c.in-Pair.right)) (sym (same_scope c.expand_first-first.ensures)) (subst (SymbolsBelow c.args.self.now.scope.symbols) c.in-Pair.is c.requires.within)
-
 pub returns-else-body-fact : goal.returns-else-body-fact
 returns-else-body-fact c =
     let wi = subst (SymbolsBelow c.args.self.now.scope.symbols) c.in-Same.is c.requires.within in
@@ -31,12 +27,34 @@ returns-else-body-fact c =
     (ap (λ B. Same c.in-Same.head B) (sym c.if-body-fact.false) ∙ sym c.in-Same.is)
     (λ rules r∈. same_turn rules _ _ _ _ _ _ _ c.ranges.top.fits r∈ i (is_in c.args.self.now.scope _ _ _ wi.0 i.from i.to) c.cell-part.ensures c.cell-cell.ensures c.lift.ensures)
 
-pub returns-then-not-both : goal.returns-then-not-both
-returns-then-not-both c =
-    subst (λ r. Always r (ShutOn c.args.top r (triple c.args.fact)) c.args.self.now c.expand_first-first.new.self c.expand_first-first.result) (sym c.in-Pair.is) c.expand_first-first.ensures
+same_symbol : (X Y : ℕ) → X ≢ Y → eqb X Y ≡ false
+same_symbol X Y ne = search rules
 
-pub returns-else-not-both : goal.returns-else-not-both
-returns-else-not-both c =
-    subst (λ r. Always r (ShutOn c.args.top r (triple c.args.fact)) c.args.self.now c.expand_second-second.new.self (c.expand_first-first.result || c.expand_second-second.result))
-    (sym c.in-Pair.is)
-    (λ rules r∈. run_like _ _ (λ (a, b). a) (run_both _ (c.expand_first-first.ensures rules r∈) (c.expand_second-second.ensures rules r∈)))
+-- a turn by a pair rule with the fact as its first part, if it is that
+by_first : (top H B C : ℕ) (f : Triple) (a b : Table) (x : Bool) → ((B ≡ f.0) × (d : Table) × (y : Bool) × Always (Pair H f.0 C) (ShutAt top (Pair H f.0 C) f) a d y × (b ≡ d) × (x ≡ y)) ⊎ ((B ≢ f.0) × (b ≡ a) × (x ≡ eqb B f.0))
+    → Always (Pair H B C) (ShutAt top (Pair H B C) f) a b x
+by_first top H B C f a b x (inl (e, d, y, j, e₁, e₂)) = rw (e, e₁, e₂) j
+by_first top H B C f a b x (inr (ne, e₁, e₂)) =
+    rw (e₁, e₂, same_symbol B f.0 ne) (λ all r∈. run_none all a _ (λ p n n< (y, u, i, j, (q, kn), kn₂, z). absurd (ne (ap (λ (t : Triple). t.0) q))))
+
+-- the same with the fact as its second part
+by_second : (H B C X : ℕ) (a b : Table) (x : Bool) → ((C ≡ X) × (d : Table) × (y : Bool) × Always (Pair H B X) Anyhow a d y × (b ≡ d) × (x ≡ y)) ⊎ ((C ≢ X) × (b ≡ a) × (x ≡ eqb C X)) → Always (Pair H B C) Anyhow a b x
+by_second H B C X a b x (inl (e, d, y, j, e₁, e₂)) = rw (e, e₁, e₂) j
+by_second H B C X a b x (inr (ne, e₁, e₂)) = rw (e₁, e₂, same_symbol C X ne) (λ all r∈. run_none all a _ tt)
+
+pub expand_right-second-requires : goal.expand_right-second-requires
+expand_right-second-requires c =
+    let first = by_first _ _ _ _ _ _ _ _ (elim c.if-left-fact.branch [ then-left-fact w ↦ inl (w.if-left-fact.true, _, _, w.expand_left-first.ensures, w.self-is, w.first-is) | else-left-fact w ↦ inr (w.if-left-fact.false, w.self-is, w.first-is) ]) in
+    let within = subst (SymbolsBelow c.args.self.now.scope.symbols) c.in-Pair.is c.requires.within in
+    rw (same_scope first) (record { fact = c.requires.fact; head = within.0; left = within.1 })
+
+pub returns-then-not-takes_seconds : goal.returns-then-not-takes_seconds
+returns-then-not-takes_seconds c =
+    rw c.in-Pair.is
+    (by_first _ _ _ _ _ _ _ _ (elim c.if-left-fact.branch [ then-left-fact w ↦ inl (w.if-left-fact.true, _, _, w.expand_left-first.ensures, w.self-is, w.first-is) | else-left-fact w ↦ inr (w.if-left-fact.false, w.self-is, w.first-is) ]))
+
+pub returns-after-right-fact : goal.returns-after-right-fact
+returns-after-right-fact c =
+    let first = by_first _ _ _ _ _ _ _ _ (elim c.if-left-fact.branch [ then-left-fact w ↦ inl (w.if-left-fact.true, _, _, w.expand_left-first.ensures, w.self-is, w.first-is) | else-left-fact w ↦ inr (w.if-left-fact.false, w.self-is, w.first-is) ]) in
+    let second = by_second _ _ _ _ _ _ _ (elim c.if-right-fact.branch [ then-right-fact w ↦ inl (w.if-right-fact.true, _, _, w.expand_right-second.ensures, w.self-is, w.second-is) | else-right-fact w ↦ inr (w.if-right-fact.false, w.self-is, w.second-is) ]) in
+    rw c.in-Pair.is (λ all r∈. run_like all _ (λ (p, q). p) (run_both all (first all r∈) (second all r∈)))
