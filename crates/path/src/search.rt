@@ -9,18 +9,12 @@ ghost use Rattle.least.specs.Entries.{In, Sound, Closed};
 ghost use Rattle.least.specs.Lowering.{weight};
 ghost use Rattle.path.specs.Witnesses.{SomeGoodFor, Shows, Nearest, Far, Best};
 
+use crate::aim::Aim;
 use crate::unfolding::unfold;
 use language::{Fitting, UntilLanguage};
 use least::{Band, Fact, Scope, Table};
 use logic::GuardedModel;
 use model::{NumberSet, Refusal, Step};
-
-// Where a path is to start, and where it may end.
-#[derive(Clone, Copy, PartialEq, Eq, Debug)]
-pub struct Aim {
-    pub state: u8,
-    pub goal: NumberSet,
-}
 
 // The better of the best so far and one state more.
 fn closer(table: &Table, top: u32, aim: Aim, to: u8, best: Option<u8>) -> Option<u8>
@@ -190,35 +184,36 @@ fn sought<L: UntilLanguage>(
     settled(table, language, top, aim).ok_or(Refusal::PathTooLong)
 }
 
-// A shortest path from the state into the goal that is guarded before its end and whose word the language has, in the first places of the step list:
-// none, or how many steps it has; refused if only longer ones than fit are there.
-// The sheet calls it, with the set of all states that have such a path, and sees to it that language, state and lent memory are as asked.
+// A shortest path from the aim's state into its goal that is guarded before its end and whose word the language has, in the
+// first places of the step list: none, or how many steps it has; refused if only longer ones than fit are there.
+// The sheet calls it, with the set of all states that have such a path, and sees to it that language, state and lent memory
+// are as asked. The set is no part of the aim, since the search does not read it; the sheet's caller lends each slice by
+// itself, and each has a clause of its own here, so that a struct of them would be made and taken apart for one call.
 pub fn shortest<L: UntilLanguage>(
     language: &Fitting<L>,
     ground: &GuardedModel,
-    goal: NumberSet,
     satisfying: NumberSet,
-    state: u8,
+    aim: Aim,
     work: &mut [u32],
     waiting: &mut [Fact],
     steps: &mut [Step],
 ) -> Result<Option<usize>, Refusal>
-    requires state { state < ground.now.model.states }
+    requires state { aim.state < ground.now.model.states }
     requires work { L.symbols language.now * ground.now.model.states * ground.now.model.states ≤ length work.old }
     requires waiting { length steps.old ≤ length waiting.old }
-    requires marks { Exactly (Has satisfying) (λ s. (s < ground.now.model.states) × SomeGoodFor ground.now.model ground.now.guard goal (L.rules language.now) s) }
-    ensures { Shows ground.now.model ground.now.guard goal (L.rules language.now) state (min (length steps.old) 4096) steps.old steps.new result }
+    requires marks { Exactly (Has satisfying) (λ s. (s < ground.now.model.states) × SomeGoodFor ground.now.model ground.now.guard aim.goal (L.rules language.now) s) }
+    ensures { Shows ground.now.model ground.now.guard aim.goal (L.rules language.now) aim.state (min (length steps.old) 4096) steps.old steps.new result }
 {
-    if !satisfying.has(state) {
+    if !satisfying.has(aim.state) {
         return Ok(None);
     }
     let scope = Scope::new(ground, language.symbols());
     let mut table = Table::empty(scope, work);
     let top = steps.len().min(4096) as u16 + 1;
-    let to = sought(&mut table, language, top, Aim { state, goal })?;
+    let to = sought(&mut table, language, top, aim)?;
     let fact = Fact {
         symbol: 0,
-        from: state,
+        from: aim.state,
         to,
     };
     let count = table.entry(fact) as usize - 1;

@@ -8,7 +8,7 @@ use language::UntilLanguage;
 use least::Fact;
 use logic::GuardedModel;
 use model::{Refusal, Step};
-use path::shortest;
+use path::{Aim, shortest};
 use until::satisfying;
 
 impl Sheet<'_> {
@@ -40,8 +40,10 @@ impl Sheet<'_> {
         )?;
         let guarded = GuardedModel::of(self.model, holds);
         let some = satisfying(&fitting, &guarded, reached, work);
-        shortest(
-            &fitting, &guarded, reached, some, state, work, waiting, steps,
-        )
+        let aim = Aim {
+            state,
+            goal: reached,
+        };
+        shortest(&fitting, &guarded, some, aim, work, waiting, steps)
     }
 }
