@@ -8,7 +8,8 @@ use crate::filling::fill;
 use language::{Fitting, UntilLanguage};
 use model::Refusal;
 
-// A word of more than 31 actions is refused, and so is a language with more than 16 symbols or 128 rules; a word of the set has known actions alone.
+// A word of more than 31 actions is refused, and so is a language with more than 16 symbols or 128 rules; a word of the set
+// has known actions alone.
 pub fn derives<L: UntilLanguage>(language: &L, word: &[u8]) -> Result<bool, Refusal>
     ensures cause { CauseDerives word.now (L.symbols language.now) (L.rules language.now) (refusal result) }
     ensures right { IfOk result (λ yes. Decides yes (L.words language.now word.now)) }

@@ -1,6 +1,6 @@
 // What the rules give, until they give nothing new. That symbols are below 16 and words short is asked of each step: a rule
 // does not know its language, and a type for short words would move the bound to its one maker.
-ghost use Rattle.std.specs.Prelude.{◌≡◌, ◌<◌, ◌≤◌, length, Some, Decides};
+ghost use Rattle.std.specs.Prelude.{◌≡◌, ◌≤◌, length, Some, Decides};
 ghost use Rattle.std.specs.List.{slice_get};
 ghost use Rattle.model.specs.Relations.{Joined, Exactly};
 ghost use Rattle.model.specs.Sets.{Has};

@@ -23,7 +23,8 @@ run t q (a ∷ w) = run t (step t q a) w
 abbrev pub Accepts : Table → Word → Type 0
 Accepts t w = t.marked (run t t.start w) ≡ true
 
--- a table over n actions: its states are below their number, a step is there exactly for its states and actions, and no state beyond it is marked
+-- a table over n actions: its states are below their number, a step is there exactly for its states and actions, and no
+-- state beyond it is marked
 pub record Complete (n : ℕ) (t : Table) : Type 0 where
   pub starts : t.start < t.states
   pub leads : (q a : ℕ) → q < t.states → a < n → (r : ℕ) × (t.next q a ≡ Some r) × (r < t.states)

@@ -1,9 +1,8 @@
 // How an automaton is written.
-ghost use Rattle.std.specs.Prelude.{◌≡◌, ◌<◌, ◌≤◌, Decides, MatchResult};
+ghost use Rattle.std.specs.Prelude.{◌≡◌, Decides, MatchResult};
 ghost use Rattle.model.specs.Refusals.{refusal};
 ghost use Rattle.model.specs.Relations.{Among};
-ghost use Rattle.model.specs.Edges.{Inside};
-ghost use Rattle.kinds.specs.Automata.{edges_of, NoEdges, EdgeAdded, AfterEdge, FinalSet, CauseSize, CauseEdge, CauseFinal};
+ghost use Rattle.kinds.specs.Automata.{edges_of, NoEdges, AfterEdge, FinalSet, CauseSize, CauseEdge, CauseFinal};
 
 use crate::automaton::Automaton;
 use model::{Edge, RecordSet, Refusal, Size};

@@ -1,4 +1,5 @@
-// What brackets tell: symbol 0 gives the balanced words, symbol 1 those with one down too many, symbol 2 a down and then a balanced word.
+// What brackets tell: symbol 0 gives the balanced words, symbol 1 those with one down too many, symbol 2 a down and then
+// a balanced word.
 ghost use Rattle.kinds.specs.BracketWords.{BracketWords, told};
 ghost use Rattle.std.proofs.Common.{arith};
 ghost use Rattle.std.specs.Prelude.{◌<◌};

@@ -1,9 +1,8 @@
 // How a grammar is written.
-ghost use Rattle.std.specs.Prelude.{◌≡◌, ◌<◌, ◌≤◌, Decides, MatchResult};
+ghost use Rattle.std.specs.Prelude.{◌≡◌, Decides, MatchResult};
 ghost use Rattle.model.specs.Refusals.{refusal};
 ghost use Rattle.model.specs.Relations.{Among};
-ghost use Rattle.language.specs.Rules.{SymbolsBelow, ActionsBelow};
-ghost use Rattle.kinds.specs.Grammars.{rules_of, NoRules, RuleAdded, AfterRule, CauseSize, CauseRule};
+ghost use Rattle.kinds.specs.Grammars.{rules_of, NoRules, AfterRule, CauseSize, CauseRule};
 
 use crate::grammar::Grammar;
 use crate::rules::{actions_below, symbols_below};

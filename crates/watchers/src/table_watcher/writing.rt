@@ -1,5 +1,5 @@
 // How a table watcher is written.
-ghost use Rattle.std.specs.Prelude.{◌≡◌, ◌≤◌, MatchResult};
+ghost use Rattle.std.specs.Prelude.{◌≡◌, MatchResult};
 ghost use Rattle.model.specs.Refusals.{refusal};
 ghost use Rattle.watchers.specs.TableWatchers.{Plain, NextSet, MarkSet, CauseSize, CauseNext, CauseMark};
 
