@@ -1,6 +1,10 @@
-use Rattle.std.proofs.Common.{◌∙◌}
-use Rattle.language.proofs.Coming.{coming_among, joined_next}
+use Rattle.std.proofs.Common.{◌∙◌, subst}
+use Rattle.model.specs.Relations.{Joined}
+use Rattle.model.specs.Triples.{Triple, Holds}
+use Rattle.language.specs.Rules.{BySome}
+use Rattle.language.proofs.Coming.{coming_among, joined_next, all_came}
 use Rattle.language.proofs.Naming.{symbols_more}
+use Rattle.chart.specs.Charts.{ByRule}
 use Rattle.chart.proofs.filling.round.Goals as goal
 
 pub add_rule-requires-clause-symbols : goal.add_rule-requires-clause-symbols
@@ -11,3 +15,9 @@ add_rule-requires-clause-symbols g c =
 
 pub loop-rule-preserved : goal.loop-rule-preserved
 loop-rule-preserved g c = joined_next _ _ _ c.loop-rule.invariant c.add_rule.ensures
+
+pub returns : goal.returns
+returns g c =
+    let facts = Holds c.args.chart.now.rows in
+    let all = all_came _ (c.into_iter-rule-iterator.ensures.into_iter_gives ∙ c.rules-rule-items.ensures.rules) c.loop-rule.yielded_by c.in-None.ensures.steps.0 in
+    subst (λ rules. Joined facts (Holds c.loop-rule.next.rows) (BySome (λ r (p : Triple). ByRule c.args.word.now r facts p) rules)) all c.loop-rule.invariant
