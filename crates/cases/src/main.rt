@@ -23,6 +23,7 @@ fn main(rt: HostRuntime) -> anyhow::Result<()> {
     sheets::limits(&mut report)?;
     untils::marked(&mut report)?;
     untils::refused(&mut report)?;
+    untils::full(&mut report)?;
     paths::counted(&mut report)?;
     paths::bracketed(&mut report)?;
     paths::circling(&mut report)?;

@@ -110,6 +110,8 @@ pub fn unserved(report: &mut Report) -> anyhow::Result<()> {
         Err(Refusal::MemoryTooShort),
     )?;
     report.number("work table as it was", sevens(&desk.work), 48)?;
+    report.number("waiting memory as it was", desk.unused(), 2)?;
+    report.number("step list as it was", desk.untouched(), 3)?;
     let mut even = Desk::new(report.heap(), 48, 3, 3)?;
     let found = even.path(&sheet, question, &both, 3);
     report.compare(

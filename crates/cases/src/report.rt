@@ -4,7 +4,8 @@ use model::Refusal;
 use std::alloc::Global;
 use std::{fmt, io};
 
-// What a call can answer, as it is printed.
+// What a call can answer, as it is printed. A trait of ours beside `Display`, which nobody but std can give to `()` and
+// `Option`.
 pub trait Answer: PartialEq + Drop {
     fn show<W: fmt::Write>(&self, f: &mut fmt::Formatter<W>) -> fmt::Result;
 }

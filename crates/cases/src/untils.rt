@@ -84,3 +84,23 @@ pub fn refused(report: &mut Report) -> anyhow::Result<()> {
     report.number("questions on the sheet", sheet.len(), 6)?;
     Ok(())
 }
+
+pub fn full(report: &mut Report) -> anyhow::Result<()> {
+    report.heading("untils on 64 questions, with a work table of sevens")?;
+    let model = workshop()?;
+    let both = ab()?;
+    let mut sheet = Sheet::open(&model);
+    for _ in 0..64 {
+        sheet.proposition(0)?;
+    }
+    let mut work = table(report.heap(), 48)?;
+    for (what, guard, expected) in [
+        ("guard not made", 64, Err(Refusal::NoSuchQuestion)),
+        ("one more question", 63, Err(Refusal::SheetFull)),
+    ] {
+        report.compare(what, sheet.until(guard, 0, &both, &mut work), expected)?;
+    }
+    report.number("sevens left in the work table", sevens(&work), 48)?;
+    report.number("questions on the sheet", sheet.len(), 64)?;
+    Ok(())
+}
