@@ -3,3 +3,4 @@ mod Doing
 mod Sizes
 mod Piles
 mod Nearest
+pub mod Choosing

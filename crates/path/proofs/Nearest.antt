@@ -19,41 +19,6 @@ use Rattle.logic.proofs.GuardedPaths.{guarded_end, good_guarded}
 use Rattle.least.proofs.Least.{least}
 use Rattle.path.specs.Witnesses.{GoodFor, Nearest, Far, Best}
 
-module _ (w : Table) (goal : NumberSet) (s top : ℕ) where
-  -- a state more that is not near
-  pub best_skip : (n : ℕ) (b : Option ℕ) → (Has goal n → 0 < entry_of w (0, s, n) → top < entry_of w (0, s, n)) → Best w goal s top n b → Best w goal s top (n + 1) b
-  best_skip n None far old = λ u l h p. elim (dec_lt u n) [ yes y ↦ old u y h p | no y ↦ (let e : n ≡ u = omega arith in subst (λ z. Has goal z → 0 < entry_of w (0, s, z) → top < entry_of w (0, s, z)) e far h p) ]
-  best_skip n (Some t) far old = record {
-    there = old.there;
-    ends = old.ends;
-    some = old.some;
-    low = old.low;
-    least = λ u l h p. elim (dec_lt u n) [ yes y ↦ old.least u y h p | no y ↦ (let e : n ≡ u = omega arith in let f = subst (λ z. Has goal z → 0 < entry_of w (0, s, z) → top < entry_of w (0, s, z)) e far h p in omega (arith, old.low, f)) ];
-  }
-
-  pub best_fewer : (n k : ℕ) (b : Option ℕ) → k ≤ n → Best w goal s top n b → Best w goal s top k b
-  best_fewer n k None l old = λ u l'. old u (omega arith)
-  best_fewer n k (Some t) l old = record { there = old.there; ends = old.ends; some = old.some; low = old.low; least = λ u l'. old.least u (omega arith) }
-
-  -- n has a lower entry than the best so far
-  abbrev Beats : Option ℕ → ℕ → Type 0
-  Beats None n = Unit {0}
-  Beats (Some t) n = entry_of w (0, s, n) < entry_of w (0, s, t)
-
-  -- a state more that is nearer than all before it
-  pub best_new : (n : ℕ) (b : Option ℕ) → n < w.scope.states → Has goal n → 0 < entry_of w (0, s, n) → entry_of w (0, s, n) ≤ top → Best w goal s top n b → Beats b n → Nearest w goal s top (n + 1) n
-  best_new n b l h p low old beats = record {
-    there = l;
-    ends = h;
-    some = p;
-    low = low;
-    least = λ u l' hu pu. elim (dec_lt u n) [ yes y ↦ further b old beats u y hu pu | no y ↦ (let e : n ≡ u = omega arith in subst (λ z. entry_of w (0, s, n) ≤ entry_of w (0, s, z)) e (omega arith)) ];
-  }
-    where
-      further : (b : Option ℕ) → Best w goal s top n b → Beats b n → (u : ℕ) → u < n → Has goal u → 0 < entry_of w (0, s, u) → entry_of w (0, s, n) ≤ entry_of w (0, s, u)
-      further None old beats u y hu pu = omega (arith, old u y hu pu)
-      further (Some t) old beats u y hu pu = omega (arith, beats, old.least u y hu pu)
-
 module _ (rules : List Rule) (w : Table) (in_rules : RulesWithin w.scope.symbols rules) (goal : NumberSet) (s top : ℕ) (inside : s < w.scope.states) (closed : Closed rules top w) where
   -- a good path that is shorter than the top has an entry
   goal_entry : (p : List Step) → GoodFor w.scope.ground.now.model w.scope.ground.now.guard goal rules s p → length p < top → (end s p < w.scope.states) × AtMost (length p) (entry_of w (0, s, end s p))

@@ -25,6 +25,10 @@ Shows m guard goal rules s limit before after (Ok None) = (SomeGoodFor m guard g
 Shows m guard goal rules s limit before after (Ok (Some n)) = (n ≤ limit) × GoodFor m guard goal rules s (take n after) × ((p : List Step) → GoodFor m guard goal rules s p → n ≤ length p) × (drop n after ≡ drop n before) × (length after ≡ length before)
 Shows m guard goal rules s limit before after (Err refusal) = (refusal ≡ PathTooLong) × SomeGoodFor m guard goal rules s × ((p : List Step) → GoodFor m guard goal rules s p → limit < length p) × (after ≡ before)
 
+-- t is of the goal, and has an entry of symbol 0 from s of at most top
+abbrev pub Near : Table → NumberSet → ℕ → ℕ → ℕ → Type 0
+Near w goal s top t = Has goal t × (0 < entry_of w (0, s, t)) × (entry_of w (0, s, t) ≤ top)
+
 -- among the first n states, t is of the goal and has the least entry of symbol 0 from s, which is at most top
 pub record Nearest (w : Table) (goal : NumberSet) (s top n t : ℕ) : Type 0 where
   pub there : t < w.scope.states

@@ -1,13 +1,13 @@
 // The search for a shortest path into the goal.
 // Table and language stand apart in each call: a struct of both would have to say in each contract that the language stays.
-ghost use Rattle.std.specs.Prelude.{◌≡◌, ℕ, ◌+◌, ◌*◌, ◌<◌, ◌≤◌, ◌==◌, ◌&&◌, min, true, not, nat_lt, length, filter, count_by, IfSome, MatchResult};
+ghost use Rattle.std.specs.Prelude.{◌≡◌, ℕ, ◌+◌, ◌*◌, ◌<◌, ◌≤◌, ◌==◌, ◌&&◌, min, true, not, nat_lt, Decides, length, filter, count_by, IfSome, MatchResult};
 ghost use Rattle.std.specs.List.{reduce};
 ghost use Rattle.model.specs.Relations.{Exactly};
 ghost use Rattle.model.specs.Sets.{Has};
 ghost use Rattle.model.specs.declared.refusal.Refusal.TheVariants.{PathTooLong};
-ghost use Rattle.least.specs.Entries.{In, Sound, Closed};
+ghost use Rattle.least.specs.Entries.{entry_of, In, Sound, Closed};
 ghost use Rattle.least.specs.Lowering.{weight};
-ghost use Rattle.path.specs.Witnesses.{SomeGoodFor, Shows, Nearest, Far, Best};
+ghost use Rattle.path.specs.Witnesses.{SomeGoodFor, Shows, Near, Nearest, Best, Far};
 
 use crate::aim::Aim;
 use crate::unfolding::unfold;
@@ -16,35 +16,25 @@ use least::{Band, Fact, Scope, Table};
 use logic::GuardedModel;
 use model::{NumberSet, Refusal, Step};
 
-// The better of the best so far and one state more.
-fn closer(table: &Table, top: u32, aim: Aim, to: u8, best: Option<u8>) -> Option<u8>
-    requires to { In table.now.scope (0, aim.state, to) }
-    requires best { Best table.now aim.goal aim.state top to best }
-    ensures { Best table.now aim.goal aim.state top (to + 1) result }
+// The entry of symbol 0 from the aim's state to this one.
+fn worth_of(table: &Table, aim: Aim, to: u8) -> u32
+    requires { In table.now.scope (0, aim.state, to) }
+    ensures { result ≡ entry_of table.now (0, aim.state, to) }
 {
-    if !aim.goal.has(to) {
-        return best;
-    }
-    let worth = table.entry(Fact {
+    table.entry(Fact {
         symbol: 0,
         from: aim.state,
         to,
-    });
-    if worth == 0 || worth > top {
-        return best;
-    }
-    let Some(old) = best else {
-        return Some(to);
-    };
-    let least = table.entry(Fact {
-        symbol: 0,
-        from: aim.state,
-        to: old,
-    });
-    if worth < least {
-        return Some(to);
-    }
-    Some(old)
+    })
+}
+
+// Whether the state is of the goal, and has an entry of at most the top.
+fn is_near(table: &Table, top: u32, aim: Aim, to: u8) -> bool
+    requires { In table.now.scope (0, aim.state, to) }
+    ensures { Decides result (Near table.now aim.goal aim.state top to) }
+{
+    let worth = worth_of(table, aim, to);
+    aim.goal.has(to) && 0 < worth && worth <= top
 }
 
 // The state of the goal with the least entry of symbol 0 from the state, if one has an entry of at most the top.
@@ -52,12 +42,9 @@ fn nearest(table: &Table, top: u32, aim: Aim) -> Option<u8>
     requires { In table.now.scope (0, aim.state, aim.state) }
     ensures { Best table.now aim.goal aim.state top table.now.scope.states result }
 {
-    let mut best = None;
-    // a loop, and no `fold` or `min_by_key`: the next turn asks what is known of the best so far, which only an invariant says
-    for to in 0..table.states() {
-        best = closer(table, top, aim, to, best);
-    }
-    best
+    (0..table.states())
+        .filter(|to| is_near(table, top, aim, *to))
+        .min_by_key(|to| worth_of(table, aim, *to))
 }
 
 // The least entry above the level that is at most the top, if there is one.
