@@ -120,6 +120,8 @@ pub fn reach<L: UntilLanguage>(
         worth,
     };
     let mut mask = NumberSet::single(fact.symbol);
+    // a loop, as in `fill` of `chart`: tried as one function with a closure for the round, whose contract (rounds only add,
+    // rounds led from the first set to the result, one more adds nothing) and trait for both kinds of set are longer than both
     loop {
         let more = reach_once(table, language, span, mask);
         if more.count() == mask.count() {

@@ -50,7 +50,8 @@ fn split<L: UntilLanguage>(table: &Table, language: &Fitting<L>, fact: Fact) -> 
         to: fact.to,
         worth,
     };
-    // a loop: with `find_map` the proof did not close, since std has no law of what it finds along an iterator
+    // a loop: with `find_map` each call is allowed, but two facts about the calls of its closure, of which its clause `runs`
+    // speaks, did not close: that a call leaves the closure as it was, and that it gave what `shrink_in` ensures
     for rule in language.rules() {
         if let Some(found) = shrink_in(table, rule, span, mask) {
             return found;
