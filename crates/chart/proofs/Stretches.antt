@@ -3,7 +3,7 @@ use Rattle.std.proofs.Common.{Bool, Decides, ◌≡◌, ℕ, zero, suc, ◌+◌,
 use Rattle.std.specs.List.{slice_get}
 use Rattle.std.proofs.lemmas.List.{drop_more, drop_all, length-drop}
 use Rattle.std.proofs.lemmas.Option.{slice_get-get_or}
-use Rattle.model.specs.Relations.{Among, Exactly}
+use Rattle.model.specs.Relations.{Among, Exactly, Triple}
 use Rattle.model.specs.Sets.{Has}
 use Rattle.model.specs.declared.number_set.NumberSet.{NumberSet}
 use Rattle.model.proofs.Joins.{place_before}
@@ -14,7 +14,7 @@ use Rattle.language.specs.declared.rule.Rule.{Rule}
 use Rattle.language.specs.declared.rule.Rule.TheVariants.{Empty, Letter, Lead, Same, Pair}
 use Rattle.chart.specs.Charts.{Spells, Stretch, Gives, ByRules}
 use Rattle.language.proofs.Heights.{by_empty, by_letter, by_lead, by_same, by_pair}
-use Rattle.model.specs.Triples.{Triple, Holds, row_of}
+use Rattle.triples.specs.Triples.{Holds, row_of}
 
 module _ (w : Word) where
   pub spells_inside : (i : ℕ) (u : Word) (j : ℕ) → Spells w i u j → i ≤ length w

@@ -1,8 +1,7 @@
 -- Which symbols derive which stretches of a word: a symbol and two places of the word are a triple.
 use Rattle.std.specs.Prelude.{◌≡◌, ℕ, ◌+◌, ◌≤◌, List, [], ◌∷◌, length, Some}
 use Rattle.std.specs.List.{slice_get}
-use Rattle.model.specs.Relations.{Among}
-use Rattle.model.specs.Triples.{Triple}
+use Rattle.model.specs.Relations.{Among, Triple}
 use Rattle.language.specs.Words.{Word}
 use Rattle.language.specs.Rules.{head_of}
 use Rattle.language.specs.Derivations.{Derives}

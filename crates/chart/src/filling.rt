@@ -6,10 +6,11 @@ ghost use Rattle.model.specs.Relations.{Joined, Exactly};
 ghost use Rattle.model.specs.Sets.{Has};
 ghost use Rattle.language.specs.Rules.{SymbolsBelow};
 ghost use Rattle.chart.specs.Charts.{Gives, ByRule, ByRules, Stretch};
-ghost use Rattle.model.specs.Triples.{Holds};
+ghost use Rattle.triples.specs.Triples.{Holds};
 
 use language::{Fitting, Rule, UntilLanguage};
-use model::{NumberSet, TripleSet};
+use model::NumberSet;
+use triples::TripleSet;
 
 // Whether the action stands at a place of the word.
 fn reads(word: &[u8], place: u8, action: u8) -> bool

@@ -6,7 +6,7 @@ use Rattle.model.specs.declared.edge.Edge.{Edge}
 use Rattle.model.specs.declared.model.Model.{Model}
 use Rattle.model.specs.declared.number_set.NumberSet.{NumberSet}
 use Rattle.model.specs.Sets.{Has}
-use Rattle.model.specs.Triples.{InRow}
+use Rattle.triples.specs.Triples.{InRow}
 use Rattle.model.specs.Edges.{Inside, no_edge}
 use Rattle.model.specs.Models.{HasEdge, edges_of}
 use Rattle.model.specs.Relations.{Among, Joined, Upto, Exactly}

@@ -6,7 +6,7 @@ use Rattle.model.specs.declared.edge.Edge.{Edge}
 use Rattle.model.specs.declared.edge.Step.{Step}
 use Rattle.model.specs.declared.model.Model.{Model}
 use Rattle.model.specs.Models.{HasEdge, edges_of}
-use Rattle.model.proofs.TripleRows.{holds_dec}
+use Rattle.triples.proofs.TripleRows.{holds_dec}
 use Rattle.language.specs.Tables.{Table, step, Complete}
 use Rattle.logic.specs.Paths.{edge}
 use Rattle.walks.proofs.Walks.{seek}

@@ -4,7 +4,7 @@ use Rattle.model.specs.declared.number_set.NumberSet.{NumberSet}
 use Rattle.model.specs.declared.model.Model.{Model}
 use Rattle.model.specs.Relations.{Exactly}
 use Rattle.model.specs.Models.{HasEdge}
-use Rattle.model.specs.Triples.{Holds}
+use Rattle.triples.specs.Triples.{Holds}
 use Rattle.language.specs.Tables.{Table, step, Complete}
 use Rattle.charts.specs.declared.charts.Charts.{Charts}
 

@@ -1,5 +1,5 @@
 // What the search looks up: the edges of the model and the steps of the watcher, by action.
-use model::TripleSet;
+use triples::TripleSet;
 
 // `into` has an arrow for each edge from its end to its start, `out` from its start to its end,
 // and `back` one for each step of the watcher from its end to its start.

@@ -1,10 +1,9 @@
 -- In a closed table no path is shorter than its entry says.
 use Rattle.std.proofs.Common.{ℕ, zero, suc, ◌+◌, ◌-◌, ◌<◌, ◌≤◌, List, refl, arith}
-use Rattle.model.specs.Relations.{Among}
+use Rattle.model.specs.Relations.{Among, Triple}
 use Rattle.language.specs.declared.rule.Rule.{Rule}
 use Rattle.language.specs.declared.rule.Rule.TheVariants.{Empty, Letter, Lead, Same, Pair}
 use Rattle.language.specs.Rules.{SymbolsBelow, RulesWithin}
-use Rattle.logic.specs.Facts.{Triple}
 use Rattle.least.specs.declared.table.Table.{Table}
 use Rattle.least.specs.Walks.{WalkWithin, GivesIn}
 use Rattle.least.specs.Entries.{ground_of, entry_of, Known, AtMost, Closed}

@@ -4,11 +4,10 @@ use mathlib.Core.Bool.{false≢true}
 use native.Mathlib.Decide.{dec_lt, ℕ_discrete}
 use lib.Arith.{digits_div}
 use Rattle.std.specs.List.{slice_get}
-use Rattle.model.specs.Relations.{Among}
+use Rattle.model.specs.Relations.{Among, Triple}
 use Rattle.model.proofs.Joins.{same_place, place_before}
 use Rattle.language.specs.declared.rule.Rule.{Rule}
 use Rattle.language.proofs.Coming.{among_last}
-use Rattle.logic.specs.Facts.{Triple}
 use Rattle.least.specs.declared.scope.Scope.{Scope}
 use Rattle.least.specs.declared.table.Table.{Table}
 use Rattle.least.specs.Walks.{Walk}

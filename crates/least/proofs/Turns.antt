@@ -5,11 +5,10 @@ use Rattle.std.specs.List.{slice_get}
 use Rattle.std.proofs.lemmas.Option.{slice_get-get_or}
 use Rattle.model.specs.declared.edge.Edge.{Edge}
 use Rattle.model.specs.Models.{HasEdge}
-use Rattle.model.specs.Relations.{Among}
+use Rattle.model.specs.Relations.{Among, Triple}
 use Rattle.model.specs.Sets.{Has}
 use Rattle.language.specs.declared.rule.Rule.{Rule}
 use Rattle.language.specs.declared.rule.Rule.TheVariants.{Empty, Letter, Lead, Same, Pair}
-use Rattle.logic.specs.Facts.{Triple}
 use Rattle.least.specs.declared.scope.Scope.{Scope}
 use Rattle.least.specs.declared.table.Table.{Table}
 use Rattle.least.specs.Walks.{Walk}

@@ -1,14 +1,14 @@
 -- Walks by a rule: put together, and taken apart.
 use Rattle.std.proofs.Common.{◌≡◌, ℕ, List, [], ◌∷◌, ◌++◌, length, sym, refl, ap, subst, arith, length-append}
 use Rattle.model.specs.declared.edge.Step.{Step}
-use Rattle.model.specs.Relations.{Among}
+use Rattle.model.specs.Relations.{Among, Triple}
 use Rattle.language.specs.declared.rule.Rule.{Rule}
 use Rattle.language.specs.declared.rule.Rule.TheVariants.{Empty, Letter, Lead, Same, Pair}
 use Rattle.language.specs.Derivations.{Yields, Derives, DerivesWithin}
 use Rattle.language.specs.Words.{Word}
 use Rattle.language.proofs.Heights.{by_lead, by_same, by_pair}
 use Rattle.logic.specs.Paths.{word}
-use Rattle.logic.specs.Facts.{Triple, Ground, Guarded}
+use Rattle.logic.specs.Facts.{Ground, Guarded}
 use Rattle.logic.proofs.GuardedPaths.{word_append, word_length, guarded_append, guarded_split, guarded_edge}
 use Rattle.least.specs.Walks.{WalkWithin, Walk, GivesIn}
 

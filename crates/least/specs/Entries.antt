@@ -1,8 +1,8 @@
 -- Tables of step counts: an entry for each fact, 0 for none, and otherwise one more than the steps of a path behind it.
 use Rattle.std.specs.Prelude.{◌≡◌, ℕ, ◌+◌, ◌*◌, ◌<◌, ◌≤◌, List, slice_index}
-use Rattle.model.specs.Relations.{Among}
+use Rattle.model.specs.Relations.{Among, Triple}
 use Rattle.language.specs.declared.rule.Rule.{Rule}
-use Rattle.logic.specs.Facts.{Triple, Ground}
+use Rattle.logic.specs.Facts.{Ground}
 use Rattle.least.specs.declared.fact.Fact.{Fact}
 use Rattle.least.specs.declared.scope.Scope.{Scope}
 use Rattle.least.specs.declared.table.Table.{Table}

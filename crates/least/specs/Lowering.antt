@@ -1,11 +1,10 @@
 -- What a search does to a table: it only lowers entries, and where it lowers none, no rule could.
 use Rattle.std.specs.Prelude.{◌≡◌, ℕ, zero, suc, ◌+◌, ◌^◌, ◌<◌, ◌≤◌, Bool, true, false, ◌⊎◌, List, [], ◌∷◌, slice_index, slice_set}
 use Rattle.model.specs.declared.edge.Edge.{Edge}
-use Rattle.model.specs.Relations.{Among}
+use Rattle.model.specs.Relations.{Among, Triple}
 use Rattle.model.specs.Sets.{Has}
 use Rattle.language.specs.declared.rule.Rule.{Rule}
 use Rattle.language.specs.declared.rule.Rule.TheVariants.{Empty, Letter, Lead, Same, Pair}
-use Rattle.logic.specs.Facts.{Triple}
 use Rattle.least.specs.declared.table.Table.{Table}
 use Rattle.least.specs.Walks.{GivesIn}
 use Rattle.least.specs.Entries.{ground_of, place, entry_of, In, Known, AtMost, Sound}

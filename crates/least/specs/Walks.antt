@@ -8,7 +8,8 @@ use Rattle.language.specs.declared.rule.Rule.{Rule}
 use Rattle.language.specs.declared.rule.Rule.TheVariants.{Empty, Letter, Lead, Same, Pair}
 use Rattle.language.specs.Derivations.{Derives, DerivesWithin}
 use Rattle.logic.specs.Paths.{word}
-use Rattle.logic.specs.Facts.{Triple, Ground, Guarded}
+use Rattle.model.specs.Relations.{Triple}
+use Rattle.logic.specs.Facts.{Ground, Guarded}
 
 -- some guarded path of n steps between the two states has a word that the symbol derives, by a tree of height at most h
 abbrev pub WalkWithin : Ground → List Rule → ℕ → Triple → ℕ → Type 0

@@ -1,14 +1,9 @@
 -- A path of a model stays among its states.
-use mathlib.Core.Path.{subst}
 use mathlib.Core.List.{List, [], ◌∷◌}
-use Prim.Native.Nat.{ℕ, zero, suc, ◌<◌, ◌≤◌}
-use native.Mathlib.Omega.{arith}
+use Prim.Native.Nat.{ℕ, zero, suc, ◌<◌}
 use lib.ListN.{take}
-use Rattle.model.specs.declared.edge.Edge.{Edge}
 use Rattle.model.specs.declared.edge.Step.{Step}
 use Rattle.model.specs.declared.model.Model.{Model}
-use Rattle.model.specs.Edges.{Inside}
-use Rattle.model.specs.Models.{HasEdge}
 use Rattle.logic.specs.Paths.{edge, Chain, end}
 use Rattle.logic.specs.Maximal.{Maximal, stopped, endless, before, state_at}
 

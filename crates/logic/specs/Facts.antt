@@ -4,14 +4,11 @@ use Rattle.model.specs.declared.edge.Step.{Step}
 use Rattle.model.specs.declared.model.Model.{Model}
 use Rattle.model.specs.declared.number_set.NumberSet.{NumberSet}
 use Rattle.model.specs.Models.{HasEdge}
+use Rattle.model.specs.Relations.{Triple}
 use Rattle.model.specs.Sets.{Has}
 use Rattle.language.specs.declared.rule.Rule.{Rule}
 use Rattle.language.specs.Derivations.{Derives, DerivesWithin}
 use Rattle.logic.specs.Paths.{edge, word}
-
--- a symbol, a from-state and a to-state
-abbrev pub Triple : Type 0
-Triple = ℕ × ℕ × ℕ
 
 -- a model with the states at which the guard holds
 pub record Ground : Type 0 where

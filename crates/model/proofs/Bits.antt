@@ -7,7 +7,7 @@ use Rattle.model.proofs.Joins.{joined_like}
 use Rattle.std.proofs.lemmas.Nat.{pow_pos, pow-add, pow_below, shl-shr, shr_high, one_shl, leading_top}
 use lib.Count.{count_leading_zeros}
 use Rattle.std.proofs.lemmas.Bool.Decides.{Decides-eqb}
-use Rattle.model.specs.Sets.{Bit, nothing}
+use Rattle.model.specs.Sets.{Bit, Has, nothing}
 use Rattle.model.specs.declared.number_set.NumberSet.{NumberSet}
 use Rattle.model.specs.Relations.{Joined, Exactly}
 
@@ -29,6 +29,9 @@ bit_decided n t = rw (and_mask (n / 2 ^ t) 1) (Decides-eqb (n / 2 ^ t % 2) 1)
 
 pub bit_none : (t : ℕ) → Bit 0 t → ⊥
 bit_none t h = let k : 0 % 2 ≡ 1 = rw zero-div at h in omega arith
+
+pub has_none : (x : NumberSet) (t : ℕ) → x ≡ nothing → Has x t → ⊥
+has_none x t e h = bit_none t (subst (λ y. Has y t) e h)
 
 bit_small : (n t : ℕ) → n < 2 ^ t → Bit n t → ⊥
 bit_small n t fits h = omega (arith, div-eq_of_lt fits)

@@ -2,6 +2,4 @@ pub mod Bits
 pub mod Joins
 pub mod Tables
 pub mod RecordSets
-pub mod TripleRows
-pub mod TripleSizes
 pub mod Passing

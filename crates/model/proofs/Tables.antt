@@ -1,5 +1,5 @@
 -- Tables of copies.
-use Rattle.std.proofs.Common.{◌≡◌, ℕ, zero, suc, ◌<◌, [], List, length, get_or, replicate, refl, arith}
+use Rattle.std.proofs.Common.{◌≡◌, ℕ, zero, suc, ◌<◌, [], length, get_or, replicate, refl, arith}
 use Rattle.std.proofs.lemmas.List.{length-replicate}
 
 pub get_d_copies : {X : Type 0} (n : ℕ) (x : X) (k : ℕ) → get_or (replicate n x) k x ≡ x

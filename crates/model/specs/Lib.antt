@@ -6,4 +6,3 @@ pub mod Edges
 pub mod Models
 pub mod Drafts
 pub mod RecordSets
-pub mod Triples

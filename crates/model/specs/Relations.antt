@@ -2,6 +2,10 @@
 use Rattle.std.specs.Prelude.{◌≡◌, ℕ, ◌<◌, ◌⊎◌, List, Some}
 use Rattle.std.specs.List.{slice_get}
 
+-- three numbers: of a fact, an arrow or a stretch
+abbrev pub Triple : Type 0
+Triple = ℕ × ℕ × ℕ
+
 -- x is one of the elements of the list
 abbrev pub Among : {X : Type 0} → X → List X → Type 0
 Among x xs = (k : ℕ) × (slice_get xs k ≡ Some x)

@@ -10,7 +10,6 @@ mod record_set;
 mod refusal;
 mod size;
 mod state_record;
-mod triple_set;
 
 pub use draft::Draft;
 pub use edge::{Edge, Step};
@@ -21,4 +20,3 @@ pub use record_set::RecordSet;
 pub use refusal::Refusal;
 pub use size::Size;
 pub use state_record::StateRecord;
-pub use triple_set::TripleSet;

@@ -11,7 +11,7 @@ use Rattle.language.specs.declared.rule.Rule.{Rule}
 use Rattle.language.specs.Rules.{RulesWithin}
 use Rattle.language.specs.Derivations.{Derives}
 use Rattle.logic.specs.Paths.{end}
-use Rattle.logic.specs.Facts.{Triple}
+use Rattle.model.specs.Relations.{Triple}
 use Rattle.least.specs.declared.table.Table.{Table}
 use Rattle.least.specs.Entries.{ground_of, In, entry_of, AtMost, Sound, Closed}
 use Rattle.least.specs.Lowering.{Run, ShutStarts, ShutAll, weight}

@@ -5,7 +5,7 @@ use Rattle.model.specs.declared.edge.Edge.{Edge}
 use Rattle.model.specs.declared.edge.Step.{Step}
 use Rattle.model.specs.declared.number_set.NumberSet.{NumberSet}
 use Rattle.model.specs.Models.{HasEdge}
-use Rattle.model.specs.Relations.{Among, Exactly, Joined}
+use Rattle.model.specs.Relations.{Among, Exactly, Joined, Triple}
 use Rattle.model.specs.Sets.{Has}
 use Rattle.language.specs.declared.rule.Rule.{Rule}
 use Rattle.language.specs.declared.rule.Rule.TheVariants.{Empty, Letter, Lead, Same, Pair}
@@ -13,7 +13,7 @@ use Rattle.language.specs.Rules.{head_of, SymbolsBelow, RulesWithin, BySome}
 use Rattle.language.specs.Words.{Word}
 use Rattle.language.specs.Derivations.{Derives}
 use Rattle.logic.specs.Paths.{word}
-use Rattle.logic.specs.Facts.{Triple, Guarded}
+use Rattle.logic.specs.Facts.{Guarded}
 use Rattle.least.specs.declared.table.Table.{Table}
 use Rattle.least.specs.Walks.{WalkWithin, GivesIn}
 use Rattle.least.specs.Entries.{ground_of, entry_of, In, Known, Sound, Closed}

@@ -8,7 +8,8 @@ use Rattle.language.specs.declared.rule.Rule.{Rule}
 use Rattle.language.specs.Words.{Word}
 use Rattle.language.specs.Derivations.{Derives}
 use Rattle.logic.specs.Paths.{word}
-use Rattle.logic.specs.Facts.{Triple, Guarded}
+use Rattle.model.specs.Relations.{Triple}
+use Rattle.logic.specs.Facts.{Guarded}
 use Rattle.least.specs.declared.fact.Fact.{Fact}
 use Rattle.least.specs.declared.table.Table.{Table}
 use Rattle.least.specs.Walks.{Leads}

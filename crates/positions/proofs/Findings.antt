@@ -8,7 +8,7 @@ use Rattle.model.specs.declared.number_set.NumberSet.{NumberSet}
 use Rattle.model.specs.declared.model.Model.{Model}
 use Rattle.model.specs.Relations.{Joined}
 use Rattle.model.specs.Sets.{Has, nothing}
-use Rattle.model.specs.Triples.{size}
+use Rattle.triples.specs.Triples.{size}
 use Rattle.model.proofs.Bits.{one_exact, or_joined}
 use Rattle.model.proofs.Joins.{joined_like, joined_both}
 use Rattle.language.specs.Tables.{Table}

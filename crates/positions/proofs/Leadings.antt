@@ -6,8 +6,8 @@ use Rattle.model.specs.declared.number_set.NumberSet.{NumberSet}
 use Rattle.model.specs.declared.model.Model.{Model}
 use Rattle.model.specs.Relations.{Exactly}
 use Rattle.model.specs.Sets.{Has, nothing}
-use Rattle.model.specs.Triples.{row_of}
-use Rattle.model.proofs.TripleRows.{has_none}
+use Rattle.triples.specs.Triples.{row_of}
+use Rattle.model.proofs.Bits.{has_none}
 use Rattle.language.specs.Tables.{Table, step}
 use Rattle.logic.specs.Paths.{edge}
 use Rattle.charts.proofs.Sure.{sure}

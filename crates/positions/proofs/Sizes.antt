@@ -5,9 +5,9 @@ use lib.Count.{ones, ones-le}
 use Rattle.std.proofs.lemmas.Nat.{pow_pos}
 use Rattle.model.specs.declared.number_set.NumberSet.{NumberSet}
 use Rattle.model.specs.Sets.{Has, nothing}
-use Rattle.model.specs.Triples.{size}
+use Rattle.triples.specs.Triples.{size}
 use Rattle.model.proofs.Bits.{ones_exact}
-use Rattle.model.proofs.TripleSizes.{size_none, size_more, size_subset}
+use Rattle.triples.proofs.TripleSizes.{size_none, size_more, size_subset}
 use Rattle.positions.specs.Pairs.{Holds}
 
 -- a set of numbers below S has S at most

@@ -6,7 +6,7 @@ use Rattle.model.specs.declared.model.Model.{Model}
 use Rattle.model.specs.Relations.{Joined}
 use Rattle.model.specs.Models.{HasEdge}
 use Rattle.model.specs.Sets.{Has}
-use Rattle.model.specs.Triples.{size}
+use Rattle.triples.specs.Triples.{size}
 use Rattle.language.specs.Tables.{Table, step}
 use Rattle.logic.specs.Paths.{edge}
 use Rattle.pile.specs.declared.base.Pile.{Pile}

@@ -8,7 +8,7 @@ use Rattle.model.specs.declared.model.Model.{Model}
 use Rattle.model.specs.Relations.{Exactly, Upto}
 use Rattle.model.specs.Models.{HasEdge, edges_of}
 use Rattle.model.specs.Sets.{Has}
-use Rattle.model.specs.Triples.{size}
+use Rattle.triples.specs.Triples.{size}
 use Rattle.model.proofs.Bits.{bit_none}
 use Rattle.language.specs.declared.alphabet.Alphabet.{Ghosts as Alphabets}
 use Rattle.language.specs.declared.watcher.Watcher.{Ghosts as Watchers}

@@ -2,7 +2,7 @@
 use Rattle.std.proofs.Common.{◌≡◌, ℕ, zero, suc, ◌+◌, ◌<◌, ◌≤◌, ◌⊎◌, List, [], ◌∷◌, ◌++◌, sym, refl, ap, ◌∙◌, subst, inl, inr, ⊎_elim, add-one, arith}
 use native.Mathlib.Decide.{dec_le, ℕ_discrete}
 use Rattle.model.specs.declared.edge.Step.{Step}
-use Rattle.model.specs.Relations.{Among, Joined, Exactly}
+use Rattle.model.specs.Relations.{Among, Joined, Exactly, Triple}
 use Rattle.language.specs.Words.{Word}
 use Rattle.language.specs.declared.rule.Rule.{Rule}
 use Rattle.language.specs.declared.rule.Rule.TheVariants.{Empty, Letter, Lead, Same, Pair}
@@ -13,7 +13,7 @@ use Rattle.logic.specs.Paths.{word}
 use Rattle.logic.specs.Facts.{Ground, Guarded, FactWithin, Fact, LeastHeight}
 use Rattle.until.specs.Consequences.{Gives, GivesAlone, GivesFresh, ByRules, ByRulesAlone, ByRulesFresh}
 use Rattle.logic.proofs.GuardedPaths.{word_append, guarded_start, guarded_end, guarded_append, guarded_split, guarded_edge}
-use Rattle.model.specs.Triples.{Triple, Lacking, TriplesBelow}
+use Rattle.triples.specs.Triples.{Lacking, TriplesBelow}
 
 -- more facts give more
 pub gives_mono : (g : Ground) (r : Rule) (F G : Triple → Type 0) → ((f : Triple) → F f → G f) → (f : Triple) → Gives g r F f → Gives g r G f

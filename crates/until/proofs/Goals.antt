@@ -2,7 +2,7 @@
 use Rattle.std.proofs.Common.{◌≡◌, ℕ, ◌<◌, List, sym, subst}
 use Rattle.model.specs.declared.model.Model.{Model}
 use Rattle.model.specs.declared.number_set.NumberSet.{NumberSet}
-use Rattle.model.specs.Relations.{Exactly}
+use Rattle.model.specs.Relations.{Exactly, Triple}
 use Rattle.model.specs.Sets.{Has}
 use Rattle.language.specs.declared.rule.Rule.{Rule}
 use Rattle.language.specs.Derivations.{Derives}
@@ -10,7 +10,6 @@ use Rattle.language.specs.Words.{Word}
 use Rattle.logic.specs.Paths.{end, SomeGood}
 use Rattle.logic.specs.Facts.{ground, Fact}
 use Rattle.logic.proofs.GuardedPaths.{guarded_good, good_guarded, good_words}
-use Rattle.model.specs.Triples.{Triple}
 
 module _ (m : Model) (guard goal : NumberSet) (rules : List Rule) where
   pub reach_good : (s t : ℕ) → Fact (ground m guard) rules (0, s, t) → Has goal t → SomeGood m (Has guard) (Has goal) (Derives rules 0) s

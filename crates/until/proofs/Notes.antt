@@ -6,7 +6,7 @@ use Rattle.model.specs.declared.number_set.NumberSet.{NumberSet}
 use Rattle.model.specs.Sets.{Has}
 use Rattle.model.specs.Relations.{Joined}
 use Rattle.until.specs.Notes.{Written, spot}
-use Rattle.model.specs.Triples.{row_of, Holds, TriplesBelow}
+use Rattle.triples.specs.Triples.{row_of, Holds, TriplesBelow}
 
 pub written_none : (P : ℕ → Type 0) (v : ℕ) (ws : List ℕ) → ((k : ℕ) → P k → ⊥) → Written P v ws ws
 written_none P v ws none k = inr (none k, refl)

@@ -4,12 +4,12 @@ use mathlib.Core.Bool.{false≢true}
 use Rattle.std.specs.List.{slice_get}
 use Rattle.model.specs.declared.edge.Edge.{Edge}
 use Rattle.model.specs.declared.number_set.NumberSet.{NumberSet}
-use Rattle.model.specs.Relations.{Among, Joined, Upto, Exactly}
+use Rattle.model.specs.Relations.{Among, Joined, Upto, Exactly, Triple}
 use Rattle.model.specs.Sets.{Bit, Has, nothing}
-use Rattle.model.proofs.TripleRows.{has_none}
+use Rattle.model.proofs.Bits.{has_none}
 use Rattle.model.proofs.Joins.{joined_like, same_place, place_before}
 use Rattle.until.specs.Consequences.{StartingAt, ByEmpty, BySame, ByPair}
-use Rattle.model.specs.Triples.{Triple, row_of, Holds, InRow, Through}
+use Rattle.triples.specs.Triples.{row_of, Holds, InRow, Through}
 
 -- all the rows are done
 pub rows_all : {P Q : Triple → Type 0} (D : Triple → Type 0) (n : ℕ) → ((f : Triple) → D f → f.1 < n) → Joined P Q (Upto (λ s. StartingAt D s) n) → Joined P Q D

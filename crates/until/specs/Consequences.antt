@@ -2,9 +2,9 @@
 use Rattle.std.specs.Prelude.{◌≡◌, ℕ, ◌<◌, ◌⊎◌, List}
 use Rattle.model.specs.declared.edge.Edge.{Edge}
 use Rattle.model.specs.Models.{HasEdge}
-use Rattle.model.specs.Relations.{Among}
+use Rattle.model.specs.Relations.{Among, Triple}
 use Rattle.model.specs.Sets.{Has}
-use Rattle.model.specs.Triples.{Triple, InRow}
+use Rattle.triples.specs.Triples.{InRow}
 use Rattle.language.specs.declared.rule.Rule.{Rule}
 use Rattle.language.specs.declared.rule.Rule.TheVariants.{Empty, Letter, Lead, Same, Pair}
 use Rattle.logic.specs.Facts.{Ground}

@@ -1,6 +1,6 @@
 -- A work table of facts: where they lie, and how it is written.
 use Rattle.std.specs.Prelude.{◌≡◌, ℕ, ◌/◌, ◌%◌, ◌⊎◌, List, slice_index}
-use Rattle.model.specs.Triples.{Triple}
+use Rattle.model.specs.Relations.{Triple}
 
 -- the fact that place k of a work table speaks of, where there are n states
 abbrev pub spot : ℕ → ℕ → Triple

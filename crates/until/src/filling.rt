@@ -3,7 +3,7 @@ ghost use Rattle.std.specs.Prelude.{◌≡◌, ℕ, ◌*◌, ◌<◌, ◌≤◌,
 ghost use Rattle.model.specs.Relations.{Exactly};
 ghost use Rattle.language.specs.Derivations.{Derives};
 ghost use Rattle.logic.specs.Facts.{Fact, LeastHeight};
-ghost use Rattle.model.specs.Triples.{Holds};
+ghost use Rattle.triples.specs.Triples.{Holds};
 ghost use Rattle.until.specs.Notes.{spot};
 
 use crate::layout::Layout;
@@ -12,7 +12,7 @@ use crate::parts::Parts;
 use crate::rounds::{first_facts, further_facts};
 use language::{Fitting, UntilLanguage};
 use logic::GuardedModel;
-use model::TripleSet;
+use triples::TripleSet;
 
 // All facts, round by round until a round finds no more; each fact is combined with the others in one round only.
 // The work table gets the least height of each fact, which is the round in which it came, and 0 where there is none.

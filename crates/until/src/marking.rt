@@ -4,12 +4,13 @@ ghost use Rattle.model.specs.Relations.{Exactly};
 ghost use Rattle.model.specs.Sets.{Has};
 ghost use Rattle.language.specs.Derivations.{Derives};
 ghost use Rattle.logic.specs.Paths.{SomeGood};
-ghost use Rattle.model.specs.Triples.{Holds};
+ghost use Rattle.triples.specs.Triples.{Holds};
 
 use crate::filling::fill;
 use language::{Fitting, UntilLanguage};
 use logic::GuardedModel;
-use model::{NumberSet, TripleSet};
+use model::NumberSet;
+use triples::TripleSet;
 
 // The states below `states` from which symbol 0 has a fact to a state of the goal. Only crates of ours call this, with
 // the number of states of a model.

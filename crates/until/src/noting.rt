@@ -2,10 +2,11 @@
 ghost use Rattle.std.specs.Prelude.{◌≡◌, ℕ, ◌+◌, ◌*◌, ◌/◌, ◌<◌, ◌≤◌, length};
 ghost use Rattle.model.specs.Sets.{Has};
 ghost use Rattle.until.specs.Notes.{Written, spot};
-ghost use Rattle.model.specs.Triples.{Holds, TriplesBelow};
+ghost use Rattle.triples.specs.Triples.{Holds, TriplesBelow};
 
 use crate::layout::Layout;
-use model::{NumberSet, TripleSet};
+use model::NumberSet;
+use triples::TripleSet;
 
 // Clears the places below `cells`.
 pub(crate) fn clear(work: &mut [u32], cells: usize)

@@ -1,9 +1,11 @@
 // The facts that a round combines.
 ghost use Rattle.std.specs.Prelude.{◌≡◌, ◌≤◌};
 ghost use Rattle.model.specs.Sets.{Has};
-ghost use Rattle.model.specs.Triples.{Triple, Holds, TriplesBelow};
+ghost use Rattle.model.specs.Relations.{Triple};
+ghost use Rattle.triples.specs.Triples.{Holds, TriplesBelow};
 
-use model::{NumberSet, TripleSet};
+use model::NumberSet;
+use triples::TripleSet;
 
 // All facts so far, those of them that are fresh, and the symbols that have a fresh one, over so many states.
 #[derive(Drop)]

@@ -1,13 +1,13 @@
 // What all the rules of a language find in one round.
 ghost use Rattle.model.specs.Relations.{Exactly, Joined};
 ghost use Rattle.until.specs.Consequences.{ByRulesAlone, ByRulesFresh};
-ghost use Rattle.model.specs.Triples.{Holds};
+ghost use Rattle.triples.specs.Triples.{Holds};
 
 use crate::parts::Parts;
 use crate::rule_steps::{add_alone, add_fresh};
 use language::{Fitting, UntilLanguage};
 use logic::GuardedModel;
-use model::TripleSet;
+use triples::TripleSet;
 
 // The facts of the first round: what the rules give that have no symbol in their bodies.
 pub(crate) fn first_facts<L: UntilLanguage>(

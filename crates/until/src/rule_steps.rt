@@ -5,12 +5,13 @@ ghost use Rattle.model.specs.Relations.{Joined, Exactly};
 ghost use Rattle.model.specs.Sets.{Has};
 ghost use Rattle.language.specs.Rules.{head_of, SymbolsBelow};
 ghost use Rattle.until.specs.Consequences.{ByEmpty, BySame, ByPair, ByEdge, Led, GivesAlone, GivesFresh};
-ghost use Rattle.model.specs.Triples.{Holds, TriplesBelow};
+ghost use Rattle.triples.specs.Triples.{Holds, TriplesBelow};
 
 use crate::parts::Parts;
 use language::Rule;
 use logic::GuardedModel;
-use model::{Edge, NumberSet, TripleSet};
+use model::{Edge, NumberSet};
+use triples::TripleSet;
 
 // An empty rule: each state reaches itself.
 fn add_empty(found: &mut TripleSet, states: u8, head: u8)

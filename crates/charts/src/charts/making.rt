@@ -6,7 +6,8 @@ ghost use Rattle.charts.specs.Arrows.{Shows, Into, Out, Back, BackFrom, Charted}
 use crate::charts::Charts;
 use crate::watched::Watched;
 use language::Watcher;
-use model::{Model, NumberSet, TripleSet};
+use model::{Model, NumberSet};
+use triples::TripleSet;
 
 // The edges, from end to start and from start to end.
 fn arrows_of_edges(model: &Model) -> (TripleSet, TripleSet)

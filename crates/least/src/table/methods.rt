@@ -1,7 +1,7 @@
 ghost use Rattle.std.specs.Prelude.{◌≡◌, ◌*◌, ◌≤◌, length, Decides};
 ghost use Rattle.model.specs.Models.{edges_of};
 ghost use Rattle.model.specs.Sets.{Has};
-ghost use Rattle.logic.specs.Facts.{Triple};
+ghost use Rattle.model.specs.Relations.{Triple};
 ghost use Rattle.least.specs.Entries.{triple, place, entry_of, In};
 
 use crate::fact::Fact;

@@ -1,7 +1,7 @@
-use Rattle.model.specs.Relations.{Joined, Upto}
+use Rattle.model.specs.Relations.{Joined, Upto, Triple}
 use Rattle.language.specs.Rules.{head_of}
 use Rattle.chart.specs.Charts.{Gives}
-use Rattle.model.specs.Triples.{Triple, Holds, InRow}
+use Rattle.triples.specs.Triples.{Holds, InRow}
 use Rattle.chart.proofs.filling.add_rule.Given as goal
 
 abbrev pub invariant-loop-from : goal.invariant-loop-from

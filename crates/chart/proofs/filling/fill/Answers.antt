@@ -1,6 +1,7 @@
 use Rattle.std.proofs.Common.{⊎_elim, arith}
-use Rattle.model.specs.Triples.{Triple, Holds}
-use Rattle.model.proofs.TripleSizes.{table_grows, table_same}
+use Rattle.model.specs.Relations.{Triple}
+use Rattle.triples.specs.Triples.{Holds}
+use Rattle.triples.proofs.TripleSizes.{table_grows, table_same}
 use Rattle.chart.specs.Charts.{ByRules}
 use Rattle.chart.proofs.Stretches.{round_derived, shut_all}
 use Rattle.chart.proofs.filling.fill.Goals as goal

@@ -1,5 +1,6 @@
 use Rattle.std.proofs.Common.{◌-◌}
-use Rattle.model.specs.Triples.{Triple, Holds, size}
+use Rattle.model.specs.Relations.{Triple}
+use Rattle.triples.specs.Triples.{Holds, size}
 use Rattle.chart.specs.Charts.{Stretch}
 use Rattle.chart.proofs.filling.fill.Given as goal
 

@@ -1,6 +1,6 @@
 use Rattle.std.proofs.Common.{◌∙◌, subst}
-use Rattle.model.specs.Relations.{Joined}
-use Rattle.model.specs.Triples.{Triple, Holds}
+use Rattle.model.specs.Relations.{Joined, Triple}
+use Rattle.triples.specs.Triples.{Holds}
 use Rattle.language.specs.Rules.{BySome}
 use Rattle.language.proofs.Coming.{coming_among, joined_next, all_came}
 use Rattle.language.proofs.Naming.{symbols_more}

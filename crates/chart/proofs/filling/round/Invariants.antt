@@ -1,7 +1,7 @@
-use Rattle.model.specs.Relations.{Joined}
+use Rattle.model.specs.Relations.{Joined, Triple}
 use Rattle.language.specs.Rules.{BySome}
 use Rattle.chart.specs.Charts.{ByRule}
-use Rattle.model.specs.Triples.{Triple, Holds}
+use Rattle.triples.specs.Triples.{Holds}
 use Rattle.chart.proofs.filling.round.Given as goal
 
 abbrev pub invariant-loop-rule : goal.invariant-loop-rule

@@ -2,7 +2,7 @@ use Rattle.std.proofs.Common.{◌≡◌, ℕ, ◌+◌, ◌-◌, length}
 use Rattle.model.specs.declared.number_set.NumberSet.{NumberSet}
 use Rattle.model.specs.Sets.{Has}
 use Rattle.pile.specs.Items.{items}
-use Rattle.model.specs.Triples.{size}
+use Rattle.triples.specs.Triples.{size}
 use Rattle.positions.specs.Pairs.{Holds}
 use Rattle.positions.specs.Searches.{Ready, Sound}
 use Rattle.positions.specs.Looking.{table_of}

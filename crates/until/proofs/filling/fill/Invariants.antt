@@ -2,7 +2,7 @@ use Rattle.std.proofs.Common.{◌≡◌, ℕ, ◌-◌, ◌*◌, ◌<◌, ◌≤�
 use Rattle.model.specs.Relations.{Exactly}
 use Rattle.logic.specs.Facts.{FactWithin}
 use Rattle.until.proofs.Facts.{New, Entry}
-use Rattle.model.specs.Triples.{Holds, size}
+use Rattle.triples.specs.Triples.{Holds, size}
 use Rattle.until.specs.Notes.{spot}
 use Rattle.until.proofs.filling.fill.Given as goal
 

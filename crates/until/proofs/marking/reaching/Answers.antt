@@ -1,6 +1,6 @@
 use Rattle.std.proofs.Common.{rules, ℕ, ◌<◌, arith}
 use Rattle.model.specs.Sets.{Has}
-use Rattle.model.specs.Triples.{Holds}
+use Rattle.triples.specs.Triples.{Holds}
 use Rattle.model.proofs.Passing.{passed_exactly}
 use Rattle.until.proofs.Rows.{met_decided}
 use Rattle.until.proofs.marking.reaching.Goals as goal

@@ -1,5 +1,5 @@
 use Rattle.until.proofs.Goals.{reach_exact, words_exact}
-use Rattle.model.specs.Triples.{Holds}
+use Rattle.triples.specs.Triples.{Holds}
 use Rattle.until.proofs.marking.satisfying.Goals as goal
 
 pub returns : goal.returns

@@ -1,6 +1,6 @@
 use Rattle.std.proofs.Common.{refl, arith}
 use Rattle.until.proofs.Notes.{written_none, written_like, number_written}
-use Rattle.model.proofs.TripleRows.{has_none}
+use Rattle.model.proofs.Bits.{has_none}
 use Rattle.until.proofs.noting.note_row.Goals as goal
 
 pub loop-to-init : goal.loop-to-init

@@ -1,6 +1,6 @@
 use Rattle.std.proofs.Common.{◌≡◌, ◌/◌, ◌%◌, ◌<◌}
 use Rattle.until.specs.Notes.{Written, spot}
-use Rattle.model.specs.Triples.{Holds}
+use Rattle.triples.specs.Triples.{Holds}
 use Rattle.until.proofs.noting.note_symbol.Given as goal
 
 abbrev pub invariant-loop-from : goal.invariant-loop-from

@@ -1,7 +1,7 @@
 use Rattle.model.specs.Relations.{Joined}
 use Rattle.language.specs.Rules.{BySome}
 use Rattle.until.specs.Consequences.{GivesAlone}
-use Rattle.model.specs.Triples.{Holds}
+use Rattle.triples.specs.Triples.{Holds}
 use Rattle.until.proofs.rounds.first_facts.Given as goal
 
 abbrev pub invariant-loop-rule : goal.invariant-loop-rule

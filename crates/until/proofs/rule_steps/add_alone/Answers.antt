@@ -2,7 +2,7 @@ use Rattle.std.proofs.Common.{sym, subst}
 use Rattle.model.specs.Relations.{Joined}
 use Rattle.language.specs.Rules.{head_of}
 use Rattle.until.specs.Consequences.{GivesAlone, ByEdge}
-use Rattle.model.specs.Triples.{Holds}
+use Rattle.triples.specs.Triples.{Holds}
 use Rattle.until.proofs.rule_steps.add_alone.Goals as goal
 
 pub returns-in-Letter : goal.returns-in-Letter

@@ -1,6 +1,6 @@
 use Rattle.model.specs.Relations.{Joined, Upto}
 use Rattle.until.specs.Consequences.{StartingAt, ByEmpty}
-use Rattle.model.specs.Triples.{Holds}
+use Rattle.triples.specs.Triples.{Holds}
 use Rattle.until.proofs.rule_steps.add_empty.Given as goal
 
 abbrev pub invariant-loop-from : goal.invariant-loop-from

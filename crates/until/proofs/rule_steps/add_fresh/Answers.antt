@@ -9,8 +9,8 @@ use Rattle.logic.specs.Facts.{Ground}
 use Rattle.until.specs.declared.parts.Parts.{Parts}
 use Rattle.until.proofs.rule_steps.add_fresh.Goals as goal
 use Rattle.until.proofs.rule_steps.add_fresh.Goals.{then-has-3, else-has-3}
-use Rattle.model.specs.declared.triple_set.TripleSet.{TripleSet}
-use Rattle.model.specs.Triples.{Holds}
+use Rattle.triples.specs.declared.triple_set.TripleSet.{TripleSet}
+use Rattle.triples.specs.Triples.{Holds}
 
 -- what the rule adds, said of its form
 as_rule : (g : Ground) (parts : Parts) (before after : TripleSet) {r form : Rule} → r ≡ form

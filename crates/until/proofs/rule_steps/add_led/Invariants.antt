@@ -5,7 +5,7 @@ use Rattle.model.specs.Models.{edges_of}
 use Rattle.model.specs.Relations.{Joined, Upto}
 use Rattle.language.specs.Rules.{head_of}
 use Rattle.until.specs.Consequences.{Led}
-use Rattle.model.specs.Triples.{Holds, InRow}
+use Rattle.triples.specs.Triples.{Holds, InRow}
 use Rattle.until.proofs.rule_steps.add_led.Given as goal
 
 abbrev pub invariant-loop-edge : goal.invariant-loop-edge

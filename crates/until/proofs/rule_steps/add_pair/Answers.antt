@@ -1,11 +1,11 @@
 use Rattle.std.proofs.Common.{sym, ◌∙◌, subst, arith}
 use Rattle.std.proofs.lemmas.Bool.{eqb-true, not-false}
-use Rattle.model.specs.declared.triple_set.TripleSet.{TripleSet}
+use Rattle.triples.specs.declared.triple_set.TripleSet.{TripleSet}
 use Rattle.model.specs.Relations.{Exactly}
 use Rattle.model.specs.Sets.{Has}
-use Rattle.model.specs.Triples.{Holds}
+use Rattle.triples.specs.Triples.{Holds}
 use Rattle.model.proofs.Joins.{joined_none, joined_more, joined_from}
-use Rattle.model.proofs.TripleRows.{row_grown}
+use Rattle.triples.proofs.TripleRows.{row_grown}
 use Rattle.until.proofs.Rows.{rows_all, pair_row, row_full}
 use Rattle.until.proofs.rule_steps.add_pair.Goals as goal
 use Rattle.until.proofs.rule_steps.add_pair.Goals.{then-ne, else-ne}

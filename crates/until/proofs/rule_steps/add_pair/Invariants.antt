@@ -1,6 +1,6 @@
 use Rattle.model.specs.Relations.{Joined, Upto}
 use Rattle.until.specs.Consequences.{StartingAt, ByPair}
-use Rattle.model.specs.Triples.{Holds}
+use Rattle.triples.specs.Triples.{Holds}
 use Rattle.until.proofs.rule_steps.add_pair.Given as goal
 
 abbrev pub invariant-loop-from : goal.invariant-loop-from

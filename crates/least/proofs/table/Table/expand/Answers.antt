@@ -1,7 +1,7 @@
 use Rattle.std.proofs.Common.{◌≡◌, ℕ, Bool, false, ◌≢◌, ◌⊎◌, inl, inr, rules, sym, ap, ◌∙◌, subst}
 use Rattle.language.specs.Rules.{SymbolsBelow}
 use lib.Dec.{eqb}
-use Rattle.logic.specs.Facts.{Triple}
+use Rattle.model.specs.Relations.{Triple}
 use Rattle.least.specs.declared.table.Table.{Table}
 use Rattle.language.specs.declared.rule.Rule.TheVariants.{Same, Pair}
 use Rattle.least.specs.Entries.{triple}

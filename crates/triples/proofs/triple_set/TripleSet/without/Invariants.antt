@@ -1,7 +1,7 @@
 use Rattle.std.proofs.Common.{◌≡◌, ℕ, ◌<◌, length, get_or}
 use Rattle.model.specs.Relations.{Exactly}
 use Rattle.model.specs.Sets.{Has, nothing}
-use Rattle.model.proofs.triple_set.TripleSet.without.Given as goal
+use Rattle.triples.proofs.triple_set.TripleSet.without.Given as goal
 
 abbrev pub invariant-loop-place : goal.invariant-loop-place
 invariant-loop-place l = (length l.rows ≡ 512)

@@ -3,13 +3,10 @@ use Rattle.std.proofs.lemmas.Bool.{false≢true}
 use Rattle.std.proofs.Common.{Bool, true, false, not, Decides, ◌≢◌, ◌≡◌, ℕ, ◌+◌, ◌*◌, ◌<◌, ◌⊎◌, List, length, get_or, set, sym, refl, ap, ◌∙◌, subst, inl, inr, ⊎_elim, arith, get_or-set_other, get_or-set_same}
 use native.Mathlib.Decide.{dec_lt, ℕ_discrete}
 use Rattle.model.specs.declared.number_set.NumberSet.{NumberSet}
-use Rattle.model.specs.Relations.{Joined, Exactly}
+use Rattle.model.specs.Relations.{Joined, Exactly, Triple}
 use Rattle.model.specs.Sets.{Has, nothing}
-use Rattle.model.proofs.Bits.{bit_none}
-use Rattle.model.specs.Triples.{Triple, row_of, Holds, InRow, Through}
-
-pub has_none : (x : NumberSet) (t : ℕ) → x ≡ nothing → Has x t → ⊥
-has_none x t e h = bit_none t (subst (λ y. Has y t) e h)
+use Rattle.model.proofs.Bits.{has_none}
+use Rattle.triples.specs.Triples.{row_of, Holds, InRow, Through}
 
 pub holds_dec : (rows : List NumberSet) (f : Triple) → Dec (Holds rows f)
 holds_dec rows f = go (dec_lt f.1 32) (ℕ_discrete _ 1)

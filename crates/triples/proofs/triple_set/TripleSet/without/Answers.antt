@@ -1,6 +1,6 @@
 use Rattle.std.proofs.Common.{arith, length-set}
-use Rattle.model.proofs.TripleSizes.{lacking_all, row_lacking}
-use Rattle.model.proofs.triple_set.TripleSet.without.Goals as goal
+use Rattle.triples.proofs.TripleSizes.{lacking_all, row_lacking}
+use Rattle.triples.proofs.triple_set.TripleSet.without.Goals as goal
 
 pub loop-place-preserved : goal.loop-place-preserved
 loop-place-preserved c = (

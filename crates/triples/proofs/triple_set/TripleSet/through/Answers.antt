@@ -1,5 +1,5 @@
-use Rattle.model.proofs.TripleRows.{through_none, through_more, through_all}
-use Rattle.model.proofs.triple_set.TripleSet.through.Goals as goal
+use Rattle.triples.proofs.TripleRows.{through_none, through_more, through_all}
+use Rattle.triples.proofs.triple_set.TripleSet.through.Goals as goal
 
 pub loop-second-init : goal.loop-second-init
 loop-second-init c = through_none _ _ _ _

@@ -1,10 +1,8 @@
 -- Sets of triples of numbers: for each first and second number a row, the set of the third.
 use Rattle.std.specs.Prelude.{ℕ, zero, suc, ◌≡◌, ◌+◌, ◌*◌, ◌<◌, List, get_or, count_ones, slice_index_or}
 use Rattle.model.specs.declared.number_set.NumberSet.{NumberSet}
+use Rattle.model.specs.Relations.{Triple}
 use Rattle.model.specs.Sets.{Has, nothing}
-
-abbrev pub Triple : Type 0
-Triple = ℕ × ℕ × ℕ
 
 -- the third numbers of a first and a second
 abbrev pub row_of : List NumberSet → ℕ → ℕ → NumberSet

@@ -1,9 +1,9 @@
 use Rattle.std.proofs.Common.{◌≡◌, ◌+◌, ◌*◌, get_or, replicate, sym, subst}
 use Rattle.model.specs.Sets.{nothing}
 use Rattle.model.proofs.Tables.{get_d_copies}
-use Rattle.model.proofs.TripleRows.{has_none}
-use Rattle.model.proofs.TripleSizes.{size_copies}
-use Rattle.model.proofs.triple_set.TripleSet.empty.Goals as goal
+use Rattle.model.proofs.Bits.{has_none}
+use Rattle.triples.proofs.TripleSizes.{size_copies}
+use Rattle.triples.proofs.triple_set.TripleSet.empty.Goals as goal
 
 pub returns : goal.returns
 returns c = record {

@@ -1,6 +1,6 @@
 use Rattle.std.proofs.Common.{sym, arith}
-use Rattle.model.proofs.TripleSizes.{size_none, size_more}
-use Rattle.model.proofs.triple_set.TripleSet.count.Goals as goal
+use Rattle.triples.proofs.TripleSizes.{size_none, size_more}
+use Rattle.triples.proofs.triple_set.TripleSet.count.Goals as goal
 
 pub loop-row-init : goal.loop-row-init
 loop-row-init c = (sym (size_none _), omega arith)

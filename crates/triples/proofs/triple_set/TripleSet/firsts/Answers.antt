@@ -1,9 +1,9 @@
 use Rattle.std.proofs.Common.{rules, ℕ, ◌<◌, ◌≢◌}
 use Rattle.model.specs.Sets.{nothing}
-use Rattle.model.specs.Triples.{row_of}
+use Rattle.triples.specs.Triples.{row_of}
 use Rattle.model.proofs.Passing.{passed_exactly}
-use Rattle.model.proofs.TripleRows.{first_decided}
-use Rattle.model.proofs.triple_set.TripleSet.firsts.Goals as goal
+use Rattle.triples.proofs.TripleRows.{first_decided}
+use Rattle.triples.proofs.triple_set.TripleSet.firsts.Goals as goal
 
 pub returns : goal.returns
 returns c t =

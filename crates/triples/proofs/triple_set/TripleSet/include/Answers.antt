@@ -1,6 +1,6 @@
 use Rattle.std.proofs.Common.{arith}
-use Rattle.model.proofs.TripleSizes.{joined_all, row_joined}
-use Rattle.model.proofs.triple_set.TripleSet.include.Goals as goal
+use Rattle.triples.proofs.TripleSizes.{joined_all, row_joined}
+use Rattle.triples.proofs.triple_set.TripleSet.include.Goals as goal
 
 pub loop-place-preserved : goal.loop-place-preserved
 loop-place-preserved c = row_joined c.args.self.now.rows c.args.other.now.rows c.loop-place.self.rows c.loop-place.place c.union.result (omega (arith, c.loop-place.self.long, c.loop-place-test.true)) c.loop-place.invariant c.union.ensures

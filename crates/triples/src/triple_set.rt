@@ -1,10 +1,10 @@
 // Sets of triples of numbers.
 ghost use Rattle.std.specs.Prelude.{◌≡◌, ℕ, ◌<◌, ◌≤◌, ◌≢◌, length};
-ghost use Rattle.model.specs.Relations.{Joined, Exactly};
+ghost use Rattle.model.specs.Relations.{Joined, Exactly, Triple};
 ghost use Rattle.model.specs.Sets.{Has, nothing};
-ghost use Rattle.model.specs.Triples.{Triple, row_of, Holds, size, InRow, Through, Lacking};
+ghost use Rattle.triples.specs.Triples.{row_of, Holds, size, InRow, Through, Lacking};
 
-use crate::number_set::NumberSet;
+use model::NumberSet;
 
 // Triples with a first number below 16 and the others below 32: for each first and second number the set of the third.
 // Their methods ask for such numbers. The rows stand in one array, since whole sets are joined and counted row by row.

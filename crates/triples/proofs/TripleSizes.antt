@@ -8,10 +8,10 @@ use Rattle.std.proofs.lemmas.Nat.{shr-shr, shr_below, pow_pos}
 use Rattle.std.proofs.lemmas.List.{get_or_past}
 use Rattle.model.specs.declared.number_set.NumberSet.{NumberSet}
 use Rattle.model.specs.Sets.{Bit, Has, nothing}
-use Rattle.model.specs.Relations.{Joined, Exactly}
+use Rattle.model.specs.Relations.{Joined, Exactly, Triple}
 use Rattle.model.proofs.Tables.{get_d_copies}
-use Rattle.model.specs.Triples.{Triple, Holds, size, Lacking}
-use Rattle.model.proofs.TripleRows.{has_none}
+use Rattle.triples.specs.Triples.{Holds, size, Lacking}
+use Rattle.model.proofs.Bits.{has_none}
 
 bit_half : (n t : ℕ) → Bit (n / 2) t ≡ Bit n (suc t)
 bit_half n t = ap (λ k. k % 2 ≡ 1) (shr-shr n 1 t ∙ ap (λ j. n / 2 ^ j) (one-add t))

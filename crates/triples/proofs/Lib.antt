@@ -1,0 +1,2 @@
+pub mod TripleRows
+pub mod TripleSizes
