@@ -2,6 +2,7 @@
 use Rattle.std.specs.Prelude.{◌≡◌, ℕ, zero, suc, ◌+◌, ◌-◌, ◌≤◌, [], ◌∷◌, ◌++◌, length, take, ◌≢◌, refl}
 use Rattle.std.proofs.Common.{sym, ap, subst, ◌∙◌, inl, inr, arith}
 use Rattle.std.proofs.lemmas.List.{take-append-le}
+use Rattle.std.proofs.Math.Seq.{take-append-add}
 use Rattle.std.proofs.lemmas.Bool.{cond-true, cond-false, eq-eqb, ne_eqb, cases_lt, cases_eq}
 use Rattle.language.specs.Words.{Word}
 use Rattle.kinds.specs.BracketWords.{times}
@@ -26,11 +27,7 @@ times_append x (a ∷ u) v = elim (cases_eq a x) [
 
 -- a beginning of two words that goes past the first
 take_past : (n : ℕ) (u v : Word) → length u ≤ n → take n (u ++ v) ≡ u ++ take (n - length u) v
-take_past n [] v l = let e : n ≡ n - 0 = omega arith in ap (λ k. take k v) e
-take_past zero (a ∷ u) v l = absurd (omega arith)
-take_past (suc n) (a ∷ u) v l =
-    let e : n - length u ≡ suc n - suc (length u) = omega arith in
-    ap (λ x. a ∷ x) (take_past n u v (omega arith) ∙ ap (λ k. u ++ take k v) e)
+take_past n u v l = let e : n ≡ length u + (n - length u) = omega arith in ap (λ k. take k (u ++ v)) e ∙ take-append-add u v (n - length u)
 
 module _ (up down : ℕ) (apart : up ≡ down → ⊥) where
   none_stays : (d n : ℕ) → times down (take n []) ≤ d + times up (take n [])

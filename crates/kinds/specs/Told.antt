@@ -12,7 +12,8 @@ use Rattle.language.specs.declared.rule.Rule.{Rule}
 use Rattle.language.specs.declared.rule.Rule.TheVariants.{Empty, Lead}
 use Rattle.kinds.specs.declared.automaton.Automaton.{Automaton}
 use Rattle.kinds.specs.Automata.{edges_of, final_at, finals_of, told, Runs}
-use Rattle.kinds.specs.Members.{among_left, among_right, among_cases, among_map, among_mapped, nth_left, nth_right}
+use Rattle.language.proofs.Members.{among_left, among_right, among_cases}
+use Rattle.kinds.specs.Members.{among_map, among_mapped, nth_left, nth_right}
 use Rattle.kinds.specs.Passing.{marked_below}
 use Rattle.kinds.specs.Passed.{passing_few, passing_among, among_passing}
 

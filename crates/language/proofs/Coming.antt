@@ -1,5 +1,5 @@
 -- The rules that an iterator has given, and those that are still to come.
-use Rattle.std.proofs.Common.{◌≡◌, ℕ, zero, suc, ◌+◌, ◌<◌, ◌⊎◌, List, [], ◌∷◌, ◌++◌, length, drop, Some, Option, sym, refl, ap, ◌∙◌, subst, inl, inr, ⊎_elim, append-nil}
+use Rattle.std.proofs.Common.{◌≡◌, ℕ, zero, suc, ◌+◌, ◌<◌, ◌⊎◌, List, [], ◌∷◌, ◌++◌, length, drop, Option, sym, refl, ap, ◌∙◌, subst, inl, inr, ⊎_elim, append-nil, arith}
 use Rattle.std.specs.List.{slice_get}
 use Rattle.std.proofs.lemmas.List.{drop_more}
 use Rattle.std.proofs.lemmas.Option.{slice_get-get_or}
@@ -7,6 +7,7 @@ use Rattle.std.specs.Iterator.{YieldsFirst, Yields}
 use Rattle.model.specs.Relations.{Among, Joined, Exactly}
 use Rattle.model.proofs.Joins.{joined_like, joined_both, joined_exact}
 use Rattle.language.specs.Rules.{BySome}
+use Rattle.language.proofs.Members.{among_left, among_right, among_cases}
 use Rattle.language.specs.declared.rule.Rule.{Rule}
 use Rattle.language.specs.declared.rule.Rule.TheVariants.{Empty}
 
@@ -26,33 +27,23 @@ all_rules rules [] left y = y
 all_rules rules (x ∷ xs) left (j, step, y) = step ∙ ap (λ r. x ∷ r) (all_rules j xs left y)
 
 among_middle : (xs : List Rule) (x : Rule) (ys : List Rule) → Among x (xs ++ x ∷ ys)
-among_middle [] x ys = (0, refl)
-among_middle (y ∷ xs) x ys = let (k, e) = among_middle xs x ys in (suc k, e)
+among_middle xs x ys = among_right x xs (x ∷ ys) (0, refl)
 
 -- the rule of a turn is among the rules
 pub coming_among : {all start left after : List Rule} {x : Rule} (gone : List Rule) → start ≡ all → Yields GivesFirst start gone left → left ≡ x ∷ after → Among x all
 coming_among {all} {start} {left} {after} {x} gone from y is = subst (Among x) (sym (all_rules start gone left y ∙ ap (λ r. gone ++ r) is) ∙ from) (among_middle gone x after)
 
-pub among_last : (x : Rule) (xs : List Rule) (r : Rule) → Among r (xs ++ x ∷ []) → Among r xs ⊎ (r ≡ x)
-among_last x [] r (zero, e) = inr (cc)
-among_last x [] r (suc k, e) = absurd (none k e)
-  where
-    none : (k : ℕ) → slice_get {X = Rule} [] k ≡ Some r → ⊥
-    none zero e = cc
-    none (suc k) e = cc
-among_last x (y ∷ xs) r (zero, e) = inl (zero, e)
-among_last x (y ∷ xs) r (suc k, e) = ⊎_elim (λ m. inl (suc m.0, m.1)) inr (among_last x xs r (k, e))
+among_one : (x r : Rule) → Among r (x ∷ []) → r ≡ x
+among_one x r (zero, e) = cc
+among_one x r (suc k, e) = let z : ◌≡◌ {A = ℕ} 0 1 = cc in absurd (omega arith)
 
-among_earlier : (xs : List Rule) (x r : Rule) → Among r xs → Among r (xs ++ x ∷ [])
-among_earlier [] x r (zero, e) = cc
-among_earlier [] x r (suc k, e) = cc
-among_earlier (y ∷ xs) x r (zero, e) = (zero, e)
-among_earlier (y ∷ xs) x r (suc k, e) = let m = among_earlier xs x r (k, e) in (suc m.0, m.1)
+pub among_last : (x : Rule) (xs : List Rule) (r : Rule) → Among r (xs ++ x ∷ []) → Among r xs ⊎ (r ≡ x)
+among_last x xs r m = ⊎_elim inl (λ l. inr (among_one x r l)) (among_cases r xs (x ∷ []) m)
 
 -- what the rules so far add, and then what the next one adds
 pub joined_next : {Y : Type 0} {P Q R : Y → Type 0} (gone : List Rule) (x : Rule) (D : Rule → Y → Type 0) → Joined P Q (BySome D gone) → Joined Q R (D x) → Joined P R (BySome D (gone ++ x ∷ []))
 joined_next gone x D before now = joined_like _ _
-    (λ y m. ⊎_elim (λ a. (a.0, among_earlier gone x a.0 a.1, a.2)) (λ d. (x, among_middle gone x [], d)) m)
+    (λ y m. ⊎_elim (λ a. (a.0, among_left a.0 gone (x ∷ []) a.1, a.2)) (λ d. (x, among_middle gone x [], d)) m)
     (λ y m. ⊎_elim (λ a. inl (m.0, a, m.2)) (λ e. inr (subst (λ r. D r y) e m.2)) (among_last x gone m.0 m.1))
     (joined_both _ _ before now)
 

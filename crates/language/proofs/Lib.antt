@@ -1,3 +1,4 @@
 pub mod Coming
 pub mod Heights
+pub mod Members
 pub mod Naming
