@@ -1,8 +1,7 @@
 // A model that is still being written.
 ghost use Rattle.std.specs.Prelude.{◌≡◌, MatchResult};
 ghost use Rattle.model.specs.Refusals.{refusal};
-ghost use Rattle.model.specs.Models.{HasEdge};
-ghost use Rattle.model.specs.Drafts.{Bare, EdgeAdded, LabelAdded, CauseSize, CauseEdge, CauseLabel, AfterEdge};
+ghost use Rattle.model.specs.Drafts.{Bare, LabelAdded, CauseSize, CauseEdge, CauseLabel, AfterEdge};
 
 use crate::edge::Edge;
 use crate::model::Model;
@@ -67,7 +66,6 @@ impl Draft {
     pub fn seal(self) -> Model
         ensures { result ≡ self.model }
     {
-        let Draft { model } = self;
-        model
+        self.model
     }
 }

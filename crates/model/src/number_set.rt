@@ -59,8 +59,7 @@ impl NumberSet {
     pub fn bits(self) -> u32
         ensures { result ≡ self.bits }
     {
-        let NumberSet { bits } = self;
-        bits
+        self.bits
     }
 
     // Whether n is in the set.

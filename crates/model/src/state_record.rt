@@ -1,5 +1,5 @@
 // What a model knows of one state.
-ghost use Rattle.std.specs.Prelude.{◌≡◌, ℕ, ◌<◌};
+ghost use Rattle.std.specs.Prelude.{◌≡◌, ◌<◌};
 ghost use Rattle.model.specs.Relations.{Joined};
 ghost use Rattle.model.specs.Sets.{Has, nothing};
 
@@ -25,8 +25,7 @@ impl StateRecord {
     pub fn propositions(self) -> NumberSet
         ensures { result ≡ self.propositions }
     {
-        let StateRecord { propositions } = self;
-        propositions
+        self.propositions
     }
 
     // Adds the proposition p, if it is below 32.

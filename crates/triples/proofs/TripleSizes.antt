@@ -1,5 +1,5 @@
 -- More facts are a larger count, and no more facts the same.
-use Rattle.std.proofs.Common.{◌≡◌, ℕ, zero, suc, ◌+◌, ◌*◌, ◌/◌, ◌%◌, ◌^◌, ◌<◌, ◌≤◌, List, length, get_or, set, replicate, sym, refl, ap, ◌∙◌, subst, inl, inr, ⊎_elim, le_of_eq, add_comm, div-one, add-one, one-add, arith, get_or-set_other, get_or-set_same, below_more}
+use Rattle.std.proofs.Common.{◌≡◌, ℕ, zero, suc, ◌+◌, ◌*◌, ◌/◌, ◌%◌, ◌^◌, ◌<◌, ◌≤◌, List, length, get_or, replicate, sym, refl, ap, ◌∙◌, subst, inl, inr, ⊎_elim, le_of_eq, add_comm, div-one, add-one, one-add, arith}
 use mathlib.Core.Path.{transport}
 use native.Mathlib.Nat.{two-pow-succ}
 use native.Mathlib.Decide.{dec_lt, ℕ_discrete}
@@ -119,25 +119,3 @@ joined_all first second both ls lf lb is = record {
   puts = λ f h. (h.0, (is _ (row_there second ls f h)).puts f.2 h.1);
   only = λ f h. ⊎_elim (λ o. inl (h.0, o)) (λ n. inr (h.0, n)) ((is _ (row_there both lb f h)).only f.2 h.1);
 }
-
--- one row more
-pub row_joined : (first second rows : List NumberSet) (i : ℕ) (x : NumberSet) → i < length rows
-    → ((k : ℕ) → k < i → Joined (Has (get_or first k nothing)) (Has (get_or rows k nothing)) (Has (get_or second k nothing))) × ((k : ℕ) → i ≤ k → get_or rows k nothing ≡ get_or first k nothing)
-    → Joined (Has (get_or rows i nothing)) (Has x) (Has (get_or second i nothing))
-    → ((k : ℕ) → k < i + 1 → Joined (Has (get_or first k nothing)) (Has (get_or (set rows i x) k nothing)) (Has (get_or second k nothing))) × ((k : ℕ) → i + 1 ≤ k → get_or (set rows i x) k nothing ≡ get_or first k nothing)
-row_joined first second rows i x l inv j = (
-  below_more (λ k. Joined (Has (get_or first k nothing)) (Has (get_or (set rows i x) k nothing)) (Has (get_or second k nothing))) i
-      (λ k h. subst (λ y. Joined (Has (get_or first k nothing)) (Has y) (Has (get_or second k nothing))) (sym (get_or-set_other rows i k x nothing (λ e. omega arith))) (inv.0 k h))
-      (subst (λ y. Joined (Has (get_or first i nothing)) (Has y) (Has (get_or second i nothing))) (sym (get_or-set_same rows i x nothing l))
-      (subst (λ y. Joined (Has y) (Has x) (Has (get_or second i nothing))) (inv.1 i (omega arith)) j)),
-  λ k h. get_or-set_other rows i k x nothing (λ e. omega arith) ∙ inv.1 k (omega arith),
-)
-
-pub row_lacking : (first second rows : List NumberSet) (i : ℕ) (x : NumberSet) → i < length rows
-    → ((k : ℕ) → k < i → Exactly (Has (get_or rows k nothing)) (λ t. Has (get_or first k nothing) t × (Has (get_or second k nothing) t → ⊥)))
-    → Exactly (Has x) (λ t. Has (get_or first i nothing) t × (Has (get_or second i nothing) t → ⊥))
-    → (k : ℕ) → k < i + 1 → Exactly (Has (get_or (set rows i x) k nothing)) (λ t. Has (get_or first k nothing) t × (Has (get_or second k nothing) t → ⊥))
-row_lacking first second rows i x l inv is =
-    below_more (λ k. Exactly (Has (get_or (set rows i x) k nothing)) (λ t. Has (get_or first k nothing) t × (Has (get_or second k nothing) t → ⊥))) i
-    (λ k h. subst (λ y. Exactly (Has y) (λ t. Has (get_or first k nothing) t × (Has (get_or second k nothing) t → ⊥))) (sym (get_or-set_other rows i k x nothing (λ e. omega arith))) (inv k h))
-    (subst (λ y. Exactly (Has y) (λ t. Has (get_or first i nothing) t × (Has (get_or second i nothing) t → ⊥))) (sym (get_or-set_same rows i x nothing l)) is)

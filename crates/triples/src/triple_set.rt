@@ -1,5 +1,6 @@
 // Sets of triples of numbers.
-ghost use Rattle.std.specs.Prelude.{◌≡◌, ℕ, ◌<◌, ◌≤◌, ◌≢◌, length};
+ghost use Rattle.std.specs.Prelude.{◌≡◌, ℕ, ◌<◌, ◌≤◌, ◌≢◌, length, slice_index_or};
+ghost use Rattle.model.specs.declared.number_set.NumberSet.{NumberSet};
 ghost use Rattle.model.specs.Relations.{Joined, Exactly, Triple};
 ghost use Rattle.model.specs.Sets.{Has, nothing};
 ghost use Rattle.triples.specs.Triples.{row_of, Holds, size, InRow, Through, Lacking};
@@ -84,24 +85,30 @@ impl TripleSet {
         total
     }
 
-    // Adds every triple of `other`. The rows go by place, here and in `without`: what the calls of a closure in
-    // `array::from_fn` gave could not be tied to the rows that it captures.
+    // Adds every triple of `other`.
     pub fn include(&mut self, other: &TripleSet)
         ensures { Joined (Holds self.old.rows) (Holds self.new.rows) (Holds other.now.rows) }
     {
-        for place in 0..512usize {
-            self.rows[place] = self.rows[place].union(other.rows[place]);
-        }
+        self.step_rows(other, NumberSet::union);
     }
 
     // The triples that `other` lacks.
     pub fn without(&self, other: &TripleSet) -> TripleSet
         ensures { Exactly (Holds result.rows) (Lacking (Holds self.now.rows) (Holds other.now.rows)) }
     {
-        let mut rows = self.rows;
-        for place in 0..512usize {
-            rows[place] = self.rows[place].without(other.rows[place]);
+        let mut left = *self;
+        left.step_rows(other, NumberSet::without);
+        left
+    }
+
+    // Puts in place of each row what the step gives of it and of the row at its place in `other`. The rows go by place:
+    // after a loop over a `zip` of `iter_mut` nothing would be known of them.
+    fn step_rows<F: Fn(NumberSet, NumberSet) -> NumberSet>(&mut self, other: &TripleSet, step: F)
+        requires { (x : NumberSet) (y : NumberSet) → F.pre step x y }
+        ensures { (k : ℕ) → k < 512 → F.post step (slice_index_or self.old.rows k nothing) (slice_index_or other.now.rows k nothing) (slice_index_or self.new.rows k nothing) }
+    {
+        for (place, row) in self.rows.iter_mut().enumerate() {
+            *row = step(*row, other.rows[place]);
         }
-        TripleSet { rows }
     }
 }
