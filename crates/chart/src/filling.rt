@@ -70,7 +70,7 @@ pub(crate) fn fill<L: UntilLanguage>(language: &Fitting<L>, word: &[u8]) -> Trip
 {
     let mut chart = TripleSet::empty();
     // a loop, as in `reach` of `path`: tried as one function with a closure for the round, whose contract (rounds only add,
-    // rounds led from the first set to the result, one more adds nothing) and trait for both kinds of set are longer than both
+    // rounds led from the first set to the result, one more adds nothing) and trait for both kinds of set are longer
     loop {
         let next = round(language, word, &chart);
         if next.count() == chart.count() {

@@ -1,22 +1,23 @@
 -- The number with the least key among the first numbers that pass a test.
-use Rattle.std.proofs.Common.{zero, suc, ◌/◌, ◌%◌, ◌^◌, ⊎_elim, IsSomeAnd, IfSome, ◌≡◌, ℕ, ◌+◌, ◌-◌, ◌<◌, ◌≤◌, ◌⊎◌, Bool, true, false, cond, List, [], ◌∷◌, length, Some, None, Option, Decides, refl, sym, ap, ◌∙◌, subst, inl, inr, arith, MatchOption, Bor}
+use Rattle.std.proofs.Common.{zero, suc, ◌/◌, ◌%◌, ◌^◌, ⊎_elim, IsSomeAnd, IfSome, ◌≡◌, ℕ, ◌+◌, ◌<◌, ◌≤◌, ◌⊎◌, Bool, true, false, cond, List, [], ◌∷◌, length, Some, None, Option, Decides, refl, sym, ap, ◌∙◌, subst, inl, inr, arith, MatchOption, Bor}
 use Rattle.std.proofs.Math.Decide.{dec_le}
 use native.Mathlib.Decide.{dec_lt, ℕ_discrete}
 use denote.Param.Members.{Mut}
 use Rattle.std.specs.List.{slice_get, filter, range_with_len}
-use Rattle.std.specs.Fn.{Called, CalledAt}
-use Rattle.std.specs.Ordering.{is_lt, nat_cmp}
-use Rattle.std.specs.Iterator.{DrainsIf}
+use Rattle.std.specs.Fn.{CalledAt, TakesAt}
+use Rattle.std.specs.Ordering.{is_lt, nat_cmp, min_by_ordering}
+use Rattle.std.specs.Iterator.{DrainsIf, Yields, KeyTurn, CallableInMinByKey}
 use Rattle.std.specs.Iterator.Runs.{Run, WholeRun, AnyItem, CallKeepsClosure, NoKeyBeyond, YieldsRun}
 use Rattle.std.proofs.lemmas.Iterator.{YieldsList, items_from_drains}
+use Rattle.std.proofs.lemmas.Iterator.Consumers.{YieldsList-turn}
+use Rattle.std.proofs.lemmas.Fn.{serves_by}
 use Rattle.std.proofs.lemmas.List.{map-id}
 use Rattle.std.proofs.lemmas.Map.Keys.{ge_from_not_lt}
-use Rattle.std.proofs.lemmas.Option.{slice_get_within}
+use Rattle.std.proofs.lemmas.Option.{slice_get_within, slice_get_read}
 use Rattle.model.specs.declared.number_set.NumberSet.{NumberSet}
-use Rattle.model.specs.Sets.{Has}
 use Rattle.least.specs.declared.table.Table.{Table}
 use Rattle.least.specs.Entries.{entry_of}
-use Rattle.path.specs.Witnesses.{Near, Nearest, Far, Best}
+use Rattle.path.specs.Witnesses.{Near, Best}
 
 -- the answer of a decided fact
 abbrev pub says : {P : Type 0} → Dec P → Bool
@@ -76,6 +77,19 @@ module _ (test : ℕ → Bool) where
   pub passes_at : (n a k x : ℕ) → slice_get (filter test (range_with_len a n)) k ≡ Some x → (x < a + n) × (test x ≡ true)
   passes_at zero a k x e = cc
   passes_at (suc n) a k x e = after n a k x (test a) refl (λ j. passes_at n (a + 1) j x) e
+
+-- the least of what passes may be asked for, if the key may be asked of each number below n
+module _ (test : ℕ → Bool) (n : ℕ) {S : Type 0} {steps : S → Option ℕ → S → Type 0} {from : S} (gives : YieldsList steps (λ x. x) from (filter test (range_with_len 0 n))) where
+  item_below : (xs : List ℕ) (t : S) (x : ℕ) (u : S) → Yields steps from xs t → steps t (Some x) u → x < n
+  item_below xs t x u y step = let (l, is) = YieldsList-turn gives xs t y (Some x) u x refl step in omega (arith, (passes_at test n 0 (length xs) x (slice_get_read _ _ (length xs) x refl l is)).0)
+
+  pub may_choose : {F : Type 0} (g : Mut F (Bor ℕ × Unit {0}) ℕ) (f : F) → ((x k : ℕ) (q : F) → CalledAt g f x k q → q ≡ f) → ((x : ℕ) → x < n → TakesAt g f x) → CallableInMinByKey steps g nat_cmp from f
+  may_choose {F} g f keeps takes = λ x t step. (
+    takes x (item_below [] from x t refl step),
+    λ k f' called. serves_by (KeyTurn min_by_ordering min_by_ordering g nat_cmp) (λ xs (q : (F × ℕ) × ℕ). q.0.0 ≡ f) (λ xs q z v j turn. keeps z turn.0 v.0.0 (subst (λ h. CalledAt g h z turn.0 v.0.0) j turn.2)) steps
+        (λ (q : (F × ℕ) × ℕ) z. TakesAt g q.0.0 z) t ((f', k), x) (keeps x k f' called)
+        (λ xs t' q z u ys step' j. subst (λ h. TakesAt g h z) (sym j) (takes z (item_below (x ∷ xs) t' z u (t, step, ys) step'))),
+  )
 
 -- the state of the goal with the least entry, from the run that chose it
 module _ (w : Table) (goal : NumberSet) (s top : ℕ) where

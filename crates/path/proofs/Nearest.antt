@@ -1,5 +1,5 @@
 -- The nearest state of the goal, and what it says of all good paths.
-use Rattle.std.proofs.Common.{◌≡◌, ℕ, ◌+◌, ◌-◌, ◌<◌, ◌≤◌, Bool, true, false, List, length, Some, None, Option, Result, refl, ap, subst, arith, MatchResult}
+use Rattle.std.proofs.Common.{◌≡◌, ℕ, ◌-◌, ◌<◌, ◌≤◌, Bool, true, false, List, length, Some, None, Option, Result, refl, ap, subst, arith, MatchResult}
 use native.Mathlib.Decide.{dec_lt}
 use Rattle.std.specs.Option.{ok_or}
 use Rattle.model.specs.declared.edge.Step.{Step}

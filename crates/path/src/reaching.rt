@@ -121,7 +121,7 @@ pub fn reach<L: UntilLanguage>(
     };
     let mut mask = NumberSet::single(fact.symbol);
     // a loop, as in `fill` of `chart`: tried as one function with a closure for the round, whose contract (rounds only add,
-    // rounds led from the first set to the result, one more adds nothing) and trait for both kinds of set are longer than both
+    // rounds led from the first set to the result, one more adds nothing) and trait for both kinds of set are longer
     loop {
         let more = reach_once(table, language, span, mask);
         if more.count() == mask.count() {

@@ -150,7 +150,8 @@ fn settled<L: UntilLanguage>(
     nearest(table, top as u32, aim)
 }
 
-// The state of the goal with the fewest steps from the state, if that is fewer than the top; the table is closed as far as that needs.
+// The state of the goal with the fewest steps from the state, if that is fewer than the top; the table is closed as far
+// as that needs.
 fn sought<L: UntilLanguage>(
     table: &mut Table,
     language: &Fitting<L>,

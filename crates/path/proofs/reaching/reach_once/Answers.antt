@@ -2,7 +2,7 @@ use Rattle.std.proofs.Common.{sym, ◌∙◌, subst}
 use Rattle.model.specs.Relations.{Joined}
 use Rattle.model.specs.Sets.{Has}
 use Rattle.model.proofs.Joins.{joined_exactly}
-use Rattle.language.specs.Rules.{head_of, SymbolsBelow, RulesWithin, BySome}
+use Rattle.language.specs.Rules.{head_of, SymbolsBelow, BySome}
 use Rattle.language.proofs.Coming.{coming_among, all_came, joined_next}
 use Rattle.path.specs.Reaching.{Keeps}
 use Rattle.path.proofs.reaching.reach_once.Goals as goal
@@ -20,6 +20,3 @@ pub returns-clause-joined : goal.returns-clause-joined
 returns-clause-joined g c =
     let all = all_came _ (c.into_iter-rule-iterator.ensures.into_iter_gives ∙ c.rules-rule-items.ensures.rules) c.loop-rule.yielded_by c.in-None.ensures.steps.0 in
     subst (λ rules. Joined (Has c.args.mask) (Has c.loop-rule.more) (BySome (λ x y. Has c.args.mask (head_of x) × Keeps c.args.table.now c.args.span.from c.args.span.to c.args.span.worth x y) rules)) all c.loop-rule.invariant
-
-pub returns-clause-within : goal.returns-clause-within
-returns-clause-within g c = subst (λ k. RulesWithin k (g.L.UntilLanguage.rules c.args.language.now)) (sym c.requires.symbols) c.rules-rule-items.ensures.named

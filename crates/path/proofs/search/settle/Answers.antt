@@ -5,9 +5,6 @@ use Rattle.least.proofs.Turns.{shut_closed}
 use Rattle.path.proofs.Nearest.{starts_by, sweeps_by}
 use Rattle.path.proofs.search.settle.Goals as goal
 
-pub loop-band-smaller : goal.loop-band-smaller
-loop-band-smaller g c = (run_both (g.L.UntilLanguage.rules c.args.language.now) (starts_by c.rules.ensures.rules c.start-first.ensures) (sweeps_by c.rules-in-loop-band.ensures.rules c.sweep-second.ensures)).less c.if-not-first-second.false
-
 pub loop-band-preserved : goal.loop-band-preserved
 loop-band-preserved g c =
     let both = run_both (g.L.UntilLanguage.rules c.args.language.now) (starts_by c.rules.ensures.rules c.start-first.ensures) (sweeps_by c.rules-in-loop-band.ensures.rules c.sweep-second.ensures) in

@@ -21,19 +21,19 @@ loop-next-init g c =
       omega (arith, c.push.ensures.room, there, c.requires.waiting),
     )
 
-pub split-found-requires : goal.split-found-requires
-split-found-requires g c =
+pub split-found-requires-clause-known : goal.split-found-requires-clause-known
+split-found-requires-clause-known g c =
     let d = subst (λ fs. Doing (g.L.UntilLanguage.rules c.args.language.now) c.args.table.now c.args.fact c.args.count c.args.steps.now fs c.loop-next.steps c.loop-next.written) (reverse_last _ _ _ c.in-Some.ensures.items) c.loop-next.invariant.0 in
     let t = turn (g.L.UntilLanguage.rules c.args.language.now) c.args.table.now c.args.fact c.args.count c.args.steps.now c.in-Some.next (reverse (items c.pop.new.self)) c.loop-next.steps c.loop-next.written (room c.pop.new.self) (omega (arith, c.loop-next.invariant.1, c.pop.ensures.room)) d in
-    record { symbols = c.requires.symbols; sound = c.requires.sound; known = (t.steps, c.requires.known.0, t.some, omega (arith, t.few, c.requires.known.1), omega (arith, t.few, c.requires.few), c.requires.known.2, t.known) }
+    (t.steps, c.requires.known.0, t.some, omega (arith, t.few, c.requires.known.1), omega (arith, t.few, c.requires.few), c.requires.known.2, t.known)
 
-pub advance-written-requires : goal.advance-written-requires
-advance-written-requires g c =
+pub advance-written-requires-clause-room : goal.advance-written-requires-clause-room
+advance-written-requires-clause-room g c =
     let d = subst (λ fs. Doing (g.L.UntilLanguage.rules c.args.language.now) c.args.table.now c.args.fact c.args.count c.args.steps.now fs c.loop-next.steps c.loop-next.written) (reverse_last _ _ _ c.in-Some.ensures.items) c.loop-next.invariant.0 in
     let t = turn (g.L.UntilLanguage.rules c.args.language.now) c.args.table.now c.args.fact c.args.count c.args.steps.now c.in-Some.next (reverse (items c.pop.new.self)) c.loop-next.steps c.loop-next.written (room c.pop.new.self) (omega (arith, c.loop-next.invariant.1, c.pop.ensures.room)) d in
     let space = t.space c.split-found.result c.split-found.ensures in
     let long = length-reverse (items c.pop.new.self) in
-    record { room = omega (arith, space.0); steps = omega (arith, space.1, c.requires.steps, c.loop-next.auto.steps) }
+    omega (arith, space.0)
 
 pub loop-next-smaller : goal.loop-next-smaller
 loop-next-smaller g c =
@@ -58,8 +58,7 @@ loop-next-preserved g c =
       omega (arith, c.loop-next.invariant.1, c.pop.ensures.room, c.advance-written.ensures.room),
     )
 
-pub returns : goal.returns
-returns g c =
+pub returns-clause-derived : goal.returns-clause-derived
+returns-clause-derived g c =
     let d = subst (λ fs. Doing (g.L.UntilLanguage.rules c.args.language.now) c.args.table.now c.args.fact c.args.count c.args.steps.now fs c.loop-next.steps c.loop-next.written) (ap reverse c.in_default.ensures.items) c.loop-next.invariant.0 in
-    let (a, b, o) = doing_end (g.L.UntilLanguage.rules c.args.language.now) c.args.table.now c.args.fact c.args.count c.args.steps.now c.loop-next.steps c.loop-next.written d in
-    record { guarded = a; derived = b; others = o }
+    (doing_end (g.L.UntilLanguage.rules c.args.language.now) c.args.table.now c.args.fact c.args.count c.args.steps.now c.loop-next.steps c.loop-next.written d).1
