@@ -1,16 +1,11 @@
 -- Arrows: an action, a state and another state. They are kept as a set of triples.
-use Rattle.std.specs.Prelude.{◌≡◌, ℕ, ◌<◌, ◌≤◌, List}
-use Rattle.model.specs.declared.number_set.NumberSet.{NumberSet}
+use Rattle.std.specs.Prelude.{◌≡◌, ℕ, ◌<◌, ◌≤◌}
 use Rattle.model.specs.declared.model.Model.{Model}
 use Rattle.model.specs.Relations.{Exactly}
 use Rattle.model.specs.Models.{HasEdge}
 use Rattle.triples.specs.Triples.{Holds}
 use Rattle.language.specs.Tables.{Table, step, Complete}
 use Rattle.charts.specs.declared.charts.Charts.{Charts}
-
--- the rows have the arrow
-abbrev pub Shows : List NumberSet → ℕ × ℕ × ℕ → Type 0
-Shows rows x = Holds rows x
 
 -- an edge leads by the action to the state from the other
 abbrev pub Into : Model → ℕ × ℕ × ℕ → Type 0
@@ -32,6 +27,6 @@ BackFrom n t q x = (x.2 ≡ q) × (x.0 < n) × (step t q x.0 ≡ x.1)
 pub record Charted (m : Model) (t : Table) (charts : Charts) : Type 0 where
   pub small : t.states ≤ 32
   pub whole : Complete m.actions t
-  pub into : Exactly (Shows charts.into.rows) (Into m)
-  pub out : Exactly (Shows charts.out.rows) (Out m)
-  pub back : Exactly (Shows charts.back.rows) (Back m.actions t)
+  pub into : Exactly (Holds charts.into.rows) (Into m)
+  pub out : Exactly (Holds charts.out.rows) (Out m)
+  pub back : Exactly (Holds charts.back.rows) (Back m.actions t)

@@ -1,7 +1,8 @@
 ghost use Rattle.std.specs.Prelude.{◌≡◌, ◌<◌, None, ◌≢◌};
 ghost use Rattle.model.specs.Relations.{Exactly, Joined};
+ghost use Rattle.triples.specs.Triples.{Holds};
 ghost use Rattle.language.specs.Tables.{step};
-ghost use Rattle.charts.specs.Arrows.{Shows, Into, Out, Back, BackFrom, Charted};
+ghost use Rattle.charts.specs.Arrows.{Into, Out, Back, BackFrom, Charted};
 
 use crate::charts::Charts;
 use crate::watched::Watched;
@@ -11,8 +12,8 @@ use triples::TripleSet;
 
 // The edges, from end to start and from start to end.
 fn arrows_of_edges(model: &Model) -> (TripleSet, TripleSet)
-    ensures into { Exactly (Shows result.0.rows) (Into model.now) }
-    ensures out { Exactly (Shows result.1.rows) (Out model.now) }
+    ensures into { Exactly (Holds result.0.rows) (Into model.now) }
+    ensures out { Exactly (Holds result.1.rows) (Out model.now) }
 {
     let mut into = TripleSet::empty();
     let mut out = TripleSet::empty();
@@ -34,7 +35,7 @@ pub fn step_of<W: Watcher>(watcher: &W, watch: u8, action: u8) -> u8
 // Adds the watcher's steps from one of its states, from end to start.
 fn add_steps<W: Watcher>(watched: &Watched<W>, arrows: &mut TripleSet, watch: u8)
     requires { watch < (W.Watcher.table watched.now.watcher.now).states }
-    ensures { Joined (Shows arrows.old.rows) (Shows arrows.new.rows) (BackFrom watched.now.model.now.actions (W.Watcher.table watched.now.watcher.now) watch) }
+    ensures { Joined (Holds arrows.old.rows) (Holds arrows.new.rows) (BackFrom watched.now.model.now.actions (W.Watcher.table watched.now.watcher.now) watch) }
 {
     for action in 0..watched.model.actions() {
         let next = step_of(watched.watcher, watch, action);
@@ -44,7 +45,7 @@ fn add_steps<W: Watcher>(watched: &Watched<W>, arrows: &mut TripleSet, watch: u8
 
 // The watcher's steps, from end to start.
 fn arrows_back<W: Watcher>(watched: &Watched<W>) -> TripleSet
-    ensures { Exactly (Shows result.rows) (Back watched.now.model.now.actions (W.Watcher.table watched.now.watcher.now)) }
+    ensures { Exactly (Holds result.rows) (Back watched.now.model.now.actions (W.Watcher.table watched.now.watcher.now)) }
 {
     let mut arrows = TripleSet::empty();
     let watches = watched.watcher.state_count() as u8;

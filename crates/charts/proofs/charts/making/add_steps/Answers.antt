@@ -3,7 +3,7 @@ use Rattle.model.specs.Relations.{Joined}
 use Rattle.model.proofs.Joins.{joined_more}
 use Rattle.language.specs.Tables.{Complete}
 use Rattle.walks.proofs.Walks.{step_below}
-use Rattle.charts.specs.Arrows.{Shows}
+use Rattle.triples.specs.Triples.{Holds}
 use Rattle.charts.proofs.Drawings.{step_there, one_more}
 use Rattle.charts.proofs.charts.making.add_steps.Goals as goal
 
@@ -26,4 +26,4 @@ pub loop-action-preserved : goal.loop-action-preserved
 loop-action-preserved g c =
     let one = one_more c.loop-action.action c.step_of-next.result c.args.watch c.single.result (omega (arith, c.args.watched.now.small, c.requires)) c.single.ensures c.add.ensures in
     joined_more _ c.loop-action.action c.loop-action.invariant
-    (subst (λ (r : ℕ). Joined (Shows c.loop-action.arrows.rows) (Shows c.add.new.self.rows) (λ x. x ≡ (c.loop-action.action, r, c.args.watch))) c.step_of-next.ensures one)
+    (subst (λ (r : ℕ). Joined (Holds c.loop-action.arrows.rows) (Holds c.add.new.self.rows) (λ x. x ≡ (c.loop-action.action, r, c.args.watch))) c.step_of-next.ensures one)
