@@ -1,2 +1,3 @@
 pub mod TripleRows
 pub mod TripleSizes
+mod Counts

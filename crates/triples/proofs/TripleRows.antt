@@ -1,6 +1,6 @@
 -- A set of triples that is filled row by row.
 use Rattle.std.proofs.lemmas.Bool.{false≢true}
-use Rattle.std.proofs.Common.{Bool, true, false, not, Decides, ◌≢◌, ◌≡◌, ℕ, ◌+◌, ◌*◌, ◌<◌, ◌⊎◌, List, length, get_or, set, sym, refl, ap, ◌∙◌, subst, inl, inr, ⊎_elim, arith, get_or-set_other, get_or-set_same}
+use Rattle.std.proofs.Common.{Bool, true, false, not, Decides, ◌≢◌, ◌≡◌, ℕ, ◌<◌, ◌⊎◌, List, sym, refl, subst, inl, inr, ⊎_elim, arith}
 use native.Mathlib.Decide.{dec_lt, ℕ_discrete}
 use Rattle.model.specs.declared.number_set.NumberSet.{NumberSet}
 use Rattle.model.specs.Relations.{Joined, Exactly, Triple}
@@ -16,27 +16,6 @@ holds_dec rows f = go (dec_lt f.1 32) (ℕ_discrete _ 1)
     go (yes l) (no n) = no (λ y. n y.1)
     go (no n) d = no (λ y. n y.0)
 
--- one row is stored, with more states in it
-pub row_added : (rows : List NumberSet) (x s : ℕ) (old new more : NumberSet) → length rows ≡ 512 → x < 16 → s < 32 → old ≡ row_of rows x s → Joined (Has old) (Has new) (Has more) → Joined (Holds rows) (Holds (set rows (x * 32 + s) new)) (InRow x s (Has more))
-row_added rows x s old new more long lx ls is j = record {
-  keeps = λ f h. elim (ℕ_discrete (f.0 * 32 + f.1) (x * 32 + s)) [
-    | yes e ↦ (h.0, stored f e (j.keeps f.2 (subst (λ y. Has y f.2) (ap (λ k. get_or rows k nothing) e ∙ sym is) h.1)))
-    | no n ↦ (h.0, subst (λ y. Has y f.2) (sym (get_or-set_other rows (x * 32 + s) (f.0 * 32 + f.1) new nothing n)) h.1)
-  ];
-  puts = λ f m. (let e = m.1 in omega arith, stored f (let e₀ = m.0 in let e₁ = m.1 in omega arith) (j.puts f.2 m.2));
-  only = λ f h. elim (ℕ_discrete (f.0 * 32 + f.1) (x * 32 + s)) [
-    | yes e ↦ ⊎_elim (λ o. inl (h.0, subst (λ y. Has y f.2) (is ∙ ap (λ k. get_or rows k nothing) (sym e)) o)) (λ m. let l = h.0 in inr (omega arith, omega arith, m))
-        (j.only f.2 (subst (λ y. Has y f.2) (ap (λ k. get_or (set rows (x * 32 + s) new) k nothing) e ∙ get_or-set_same rows (x * 32 + s) new nothing room) h.1))
-    | no n ↦ inl (h.0, subst (λ y. Has y f.2) (get_or-set_other rows (x * 32 + s) (f.0 * 32 + f.1) new nothing n) h.1)
-  ];
-}
-  where
-    room : x * 32 + s < length rows
-    room = omega arith
-
-    stored : (f : Triple) → f.0 * 32 + f.1 ≡ x * 32 + s → Has new f.2 → Has (get_or (set rows (x * 32 + s) new) (f.0 * 32 + f.1) nothing) f.2
-    stored f e h = subst (λ y. Has y f.2) (sym (ap (λ k. get_or (set rows (x * 32 + s) new) k nothing) e ∙ get_or-set_same rows (x * 32 + s) new nothing room)) h
-
 -- a row that has grown: of what is added only the more is new
 pub row_grown : (rows : List NumberSet) (head s : ℕ) (row out : NumberSet) {Q : Triple → Type 0} (T : ℕ → Type 0) → s < 32 → row ≡ row_of rows head s → Joined (Has row) (Has out) T → Joined (Holds rows) Q (InRow head s (Has out)) → Joined (Holds rows) Q (InRow head s T)
 row_grown rows head s row out T within is grown j = record {
@@ -51,16 +30,6 @@ row_grown rows head s row out T within is grown j = record {
 -- through the states of a set, one after another
 abbrev pub ReachedOr : NumberSet → NumberSet → List NumberSet → ℕ → ℕ → Type 0
 ReachedOr reached from rows symbol t = Has reached t ⊎ Through (Has from) (Holds rows) symbol t
-
-pub through_none : (rows : List NumberSet) (from reached : NumberSet) (symbol : ℕ) → Joined (Has reached) (ReachedOr reached from rows symbol) (Through (Has from) (Holds rows) symbol)
-through_none rows from reached symbol = record { keeps = λ t h. inl h; puts = λ t m. inr m; only = λ t m. m }
-
--- no state of the set is left
-pub through_all : (rows : List NumberSet) (from rest first reached : NumberSet) (symbol : ℕ) → rest ≡ nothing → Joined (Has reached) (ReachedOr first from rows symbol) (Through (Has rest) (Holds rows) symbol) → Joined (Has first) (Has reached) (Through (Has from) (Holds rows) symbol)
-through_all rows from rest first reached symbol e j = record { keeps = λ t h. back t (inl h); puts = λ t m. back t (inr m); only = j.keeps }
-  where
-    back : (t : ℕ) → ReachedOr first from rows symbol t → Has reached t
-    back t m = ⊎_elim (λ h. h) (λ d. absurd (has_none rest d.0 e d.1)) (j.only t m)
 
 pub through_more : (rows : List NumberSet) (rest rest' reached reached' row : NumberSet) (symbol state : ℕ) {T : ℕ → Type 0} → state < 32 → row ≡ row_of rows symbol state
     → Joined (Has rest') (Has rest) (λ u. u ≡ state) → Joined (Has reached) (Has reached') (Has row)

@@ -1,11 +1,13 @@
 -- More facts are a larger count, and no more facts the same.
-use Rattle.std.proofs.Common.{◌≡◌, ℕ, zero, suc, ◌+◌, ◌*◌, ◌/◌, ◌%◌, ◌^◌, ◌<◌, ◌≤◌, List, length, get_or, replicate, sym, refl, ap, ◌∙◌, subst, inl, inr, ⊎_elim, le_of_eq, add_comm, div-one, add-one, one-add, arith}
+use Rattle.std.proofs.Common.{◌≡◌, ℕ, zero, suc, ◌+◌, ◌*◌, ◌/◌, ◌%◌, ◌^◌, ◌<◌, ◌≤◌, List, [], ◌∷◌, length, get_or, replicate, sym, refl, ap, ◌∙◌, subst, inl, inr, ⊎_elim, le_of_eq, add_comm, div-one, add-one, one-add, arith}
 use mathlib.Core.Path.{transport}
 use native.Mathlib.Nat.{two-pow-succ}
 use native.Mathlib.Decide.{dec_lt, ℕ_discrete}
 use lib.Count.{ones, ones_step}
 use Rattle.std.proofs.lemmas.Nat.{shr-shr, shr_below, pow_pos}
 use Rattle.std.proofs.lemmas.List.{get_or_past}
+use Rattle.std.specs.List.{sum_by}
+use Rattle.std.proofs.lemmas.List.Sums.{sum_by-cons}
 use Rattle.model.specs.declared.number_set.NumberSet.{NumberSet}
 use Rattle.model.specs.Sets.{Bit, Has, nothing}
 use Rattle.model.specs.Relations.{Joined, Exactly, Triple}
@@ -53,6 +55,18 @@ size_none rows = refl
 pub size_more : (rows : List NumberSet) (n : ℕ) → size rows (n + 1) ≡ size rows n + ones (get_or rows n nothing).bits
 unfolding size
 size_more rows n = rw add-one
+
+-- the first row, and then the others
+size_first : (row : NumberSet) (rows : List NumberSet) (n : ℕ) → size (row ∷ rows) (suc n) ≡ ones row.bits + size rows n
+unfolding size
+size_first row rows zero = omega arith
+size_first row rows (suc n) = omega (arith, size_first row rows n)
+
+-- the triples of all the rows are the sum of the rows' own
+pub size_sum : (rows : List NumberSet) → size rows (length rows) ≡ sum_by (λ (row : NumberSet). ones row.bits) rows
+unfolding size
+size_sum [] = refl
+size_sum (row ∷ rows) = omega (arith, size_first row rows (length rows), size_sum rows, sum_by-cons (λ (r : NumberSet). ones r.bits) row rows)
 
 ones_zero : ones 0 ≡ 0
 unfolding ones

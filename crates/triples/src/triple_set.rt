@@ -73,16 +73,12 @@ impl TripleSet {
         found
     }
 
-    // How many triples there are. A loop: the bound of its sum is the invariant, which `sum` would want from its caller.
+    // How many triples there are.
     pub fn count(&self) -> u32
         ensures size { result ≡ size self.now.rows 512 }
         ensures most { result ≤ 16384 }
     {
-        let mut total = 0u32;
-        for row in &self.rows {
-            total += row.count();
-        }
-        total
+        self.rows.iter().map(|row| row.count()).sum()
     }
 
     // Adds every triple of `other`.

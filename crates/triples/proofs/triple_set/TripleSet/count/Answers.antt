@@ -1,12 +1,24 @@
-use Rattle.std.proofs.Common.{sym, arith}
-use Rattle.triples.proofs.TripleSizes.{size_none, size_more}
+use Rattle.std.proofs.Common.{rules, ◌≡◌, ◌^◌, count_ones, sym, ap, ◌∙◌, arith}
+use Rattle.std.specs.List.{sum_by}
+use Rattle.std.proofs.lemmas.Iterator.{YieldsList-from_slice}
+use Rattle.std.proofs.lemmas.Iterator.Adapters.{fits_from_length, at_most_from_yields_List}
+use Rattle.model.specs.declared.number_set.NumberSet.{NumberSet}
+use Rattle.triples.specs.Triples.{size}
+use Rattle.triples.proofs.Counts.{sum_below}
+use Rattle.triples.proofs.TripleSizes.{size_sum}
 use Rattle.triples.proofs.triple_set.TripleSet.count.Goals as goal
 
-pub loop-row-init : goal.loop-row-init
-loop-row-init c = (sym (size_none _), omega arith)
+-- at most 512 rows, each with at most 32 numbers
+pub sum-requires-clause-fits : goal.sum-requires-clause-fits
+sum-requires-clause-fits c =
+    fits_from_length _ _ 512 (2 ^ 32) (at_most_from_yields_List (YieldsList-from_slice c.args.self.now.rows cc) (omega (arith, c.args.self.now.long))) c.map.ensures.closure (omega arith) (λ x r q k. search rules)
 
-pub overflow_add-total : goal.overflow_add-total
-overflow_add-total c = omega (arith, c.count-total.ensures, c.loop-row.invariant.1)
+pub returns-clause-size : goal.returns-clause-size
+returns-clause-size c =
+    let total : c.sum.result ≡ sum_by (λ (r : NumberSet). count_ones r.bits) c.args.self.now.rows = search rules in
+    total ∙ sym (size_sum c.args.self.now.rows) ∙ ap (size c.args.self.now.rows) c.args.self.now.long
 
-pub loop-row-preserved : goal.loop-row-preserved
-loop-row-preserved c = (omega (arith, size_more c.args.self.now.rows c.loop-row.row-index, c.count-total.ensures, c.loop-row.invariant.0), omega (arith, c.count-total.ensures, c.loop-row.invariant.1))
+pub returns-clause-most : goal.returns-clause-most
+returns-clause-most c =
+    let few = sum_below (c.sum.ensures.runs tt) _ 512 16385 (at_most_from_yields_List (YieldsList-from_slice c.args.self.now.rows cc) (omega (arith, c.args.self.now.long))) c.map.ensures.closure (omega arith) (λ x r q k. search rules) in
+    omega arith
