@@ -9,6 +9,21 @@ use watchers::accepts;
 // A word, and whether it is in the language or why the question is refused.
 type Case<'a> = (&'a [u8], Result<bool, Refusal>);
 
+// Compares what `ask` finds of each word with what is expected of it.
+fn compare<F: Fn(&[u8]) -> Result<bool, Refusal>>(
+    checks: &mut Checks,
+    kind: &str,
+    cases: &[Case],
+    ask: F,
+) -> anyhow::Result<()>
+    requires { F.IsAlwaysCallable ask }
+{
+    for (word, expected) in cases {
+        checks.note(kind, word, ask(word), *expected)?;
+    }
+    Ok(())
+}
+
 pub fn watchers(checks: &mut Checks) -> anyhow::Result<()> {
     let steps = samples::steps()?;
     let cases: [Case; 5] = [
@@ -18,9 +33,7 @@ pub fn watchers(checks: &mut Checks) -> anyhow::Result<()> {
         (&[0, 1, 0], Ok(false)),
         (&[2], Ok(false)),
     ];
-    for (word, expected) in cases {
-        checks.note("steps", word, accepts(&steps, word), expected)?;
-    }
+    compare(checks, "steps", &cases, |word| accepts(&steps, word))?;
     let last_one = samples::last_one()?;
     let cases: [Case; 5] = [
         (&[1], Ok(true)),
@@ -29,10 +42,7 @@ pub fn watchers(checks: &mut Checks) -> anyhow::Result<()> {
         (&[1, 0], Ok(false)),
         (&[2, 1], Ok(false)),
     ];
-    for (word, expected) in cases {
-        checks.note("table", word, accepts(&last_one, word), expected)?;
-    }
-    Ok(())
+    compare(checks, "table", &cases, |word| accepts(&last_one, word))
 }
 
 pub fn grammar(checks: &mut Checks) -> anyhow::Result<()> {
@@ -45,10 +55,7 @@ pub fn grammar(checks: &mut Checks) -> anyhow::Result<()> {
         (&[1, 0], Ok(false)),
         (&[0; 32], Err(Refusal::OutOfRange)),
     ];
-    for (word, expected) in cases {
-        checks.note("grammar", word, derives(&grammar, word), expected)?;
-    }
-    Ok(())
+    compare(checks, "grammar", &cases, |word| derives(&grammar, word))
 }
 
 pub fn automaton(checks: &mut Checks) -> anyhow::Result<()> {
@@ -60,10 +67,12 @@ pub fn automaton(checks: &mut Checks) -> anyhow::Result<()> {
         (&[1], Ok(false)),
         (&[1, 1, 0, 1], Ok(false)),
     ];
-    for (word, expected) in cases {
-        checks.note("automaton", word, derives(&automaton, word), expected)?;
-    }
-    Ok(())
+    compare(
+        checks,
+        "automaton",
+        &cases,
+        |word| derives(&automaton, word),
+    )
 }
 
 pub fn brackets(checks: &mut Checks) -> anyhow::Result<()> {
@@ -77,19 +86,10 @@ pub fn brackets(checks: &mut Checks) -> anyhow::Result<()> {
         (&[0, 1, 1, 0], Ok(false)),
         (&[0, 3, 1], Ok(false)),
     ];
-    for (word, expected) in cases {
-        checks.note("brackets", word, derives(&brackets, word), expected)?;
-    }
-    Ok(())
+    compare(checks, "brackets", &cases, |word| derives(&brackets, word))
 }
 
 pub fn wide(checks: &mut Checks) -> anyhow::Result<()> {
-    let word = [0];
-    checks.note(
-        "17 symbols",
-        &word,
-        derives(&Wide, &word),
-        Err(Refusal::TooLarge),
-    )?;
-    Ok(())
+    let cases: [Case; 1] = [(&[0], Err(Refusal::TooLarge))];
+    compare(checks, "17 symbols", &cases, |word| derives(&Wide, word))
 }

@@ -1,4 +1,5 @@
-// How an automaton is written.
+// How an automaton is written. `size` and `set_final` are like those of grammars and table watchers, one line or two on
+// another type: a shared one would need a trait with a member for each of these lines.
 ghost use Rattle.std.specs.Prelude.{◌≡◌, Decides, MatchResult};
 ghost use Rattle.model.specs.Refusals.{refusal};
 ghost use Rattle.model.specs.Relations.{Among};

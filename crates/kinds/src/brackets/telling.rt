@@ -52,30 +52,31 @@ impl UntilLanguage for Brackets {
 
     fn rule(&self, place: usize) -> Option<Rule> {
         match place {
-            0 => return Some(Rule::Empty { head: 0 }),
-            1 => return Some(Rule::Lead {
+            0 => Some(Rule::Empty { head: 0 }),
+            1 => Some(Rule::Lead {
                 head: 0,
                 action: self.up,
                 rest: 1,
             }),
-            2 => return Some(Rule::Pair {
+            2 => Some(Rule::Pair {
                 head: 1,
                 left: 0,
                 right: 2,
             }),
-            3 => return Some(Rule::Lead {
+            3 => Some(Rule::Lead {
                 head: 2,
                 action: self.down,
                 rest: 0,
             }),
-            _ => {}
+            _ => {
+                let others = self.others();
+                let action = marked_at(&others, self.actions, place - 4)?;
+                Some(Rule::Lead {
+                    head: 0,
+                    action,
+                    rest: 0,
+                })
+            }
         }
-        let others = self.others();
-        let action = marked_at(&others, self.actions, place - 4)?;
-        Some(Rule::Lead {
-            head: 0,
-            action,
-            rest: 0,
-        })
     }
 }

@@ -1,4 +1,4 @@
-// How a grammar is written.
+// How a grammar is written. `size` is the one line of automata and table watchers, on another type.
 ghost use Rattle.std.specs.Prelude.{◌≡◌, Decides, MatchResult};
 ghost use Rattle.model.specs.Refusals.{refusal};
 ghost use Rattle.model.specs.Relations.{Among};

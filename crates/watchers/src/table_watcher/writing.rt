@@ -1,4 +1,5 @@
-// How a table watcher is written.
+// How a table watcher is written. `size` and `mark` are like the `size` and `set_final` of automata, one line or two on
+// another type: a shared one would need a trait with a member for each of these lines.
 ghost use Rattle.std.specs.Prelude.{◌≡◌, MatchResult};
 ghost use Rattle.model.specs.Refusals.{refusal};
 ghost use Rattle.watchers.specs.TableWatchers.{Plain, NextSet, MarkSet, CauseSize, CauseNext, CauseMark};
