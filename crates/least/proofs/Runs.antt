@@ -1,8 +1,7 @@
 -- Runs of lowerings, one after another.
-use Rattle.std.proofs.Common.{◌≡◌, ℕ, zero, suc, ◌+◌, ◌-◌, ◌*◌, ◌/◌, ◌^◌, ◌<◌, ◌≤◌, Bool, true, false, ◌||◌, ◌≢◌, ◌⊎◌, List, [], ◌∷◌, ◌++◌, length, get_or, set, Some, sym, refl, ap, ◌∙◌, subst, inl, inr, ⊎_elim, true≢false, mul-le-mul_right, arith, get_or-set_other, get_or-set_same}
+use Rattle.std.proofs.Common.{◌≡◌, ℕ, zero, suc, ◌+◌, ◌-◌, ◌*◌, ◌^◌, ◌<◌, ◌≤◌, Bool, true, false, ◌||◌, ◌≢◌, ◌⊎◌, List, [], ◌∷◌, ◌++◌, length, get_or, set, Some, sym, refl, ap, ◌∙◌, subst, inl, inr, ⊎_elim, true≢false, arith, get_or-set_other, get_or-set_same}
 use mathlib.Core.Bool.{false≢true}
 use native.Mathlib.Decide.{dec_lt, ℕ_discrete}
-use lib.Arith.{digits_div}
 use Rattle.std.specs.List.{slice_get}
 use Rattle.model.specs.Relations.{Among, Triple}
 use Rattle.model.proofs.Joins.{same_place, place_before}
@@ -11,7 +10,9 @@ use Rattle.language.proofs.Coming.{among_last}
 use Rattle.least.specs.declared.scope.Scope.{Scope}
 use Rattle.least.specs.declared.table.Table.{Table}
 use Rattle.least.specs.Walks.{Walk}
-use Rattle.least.specs.Entries.{ground_of, place, entry_of, In, Known, AtMost, Sound}
+use Rattle.logic.specs.Layouts.{place, spot}
+use Rattle.logic.proofs.Layouts.{spot_place, place_below}
+use Rattle.least.specs.Entries.{ground_of, entry_of, In, Known, AtMost, Sound}
 use Rattle.least.specs.Lowering.{Lowers, Given, Lifted, Summed, weight, Run, Always}
 
 pub lowered : (top cell entry : ℕ) (before after : Table) → after.scope ≡ before.scope → after.entries.now ≡ set before.entries.now cell entry → 0 < entry → entry ≤ top
@@ -49,26 +50,13 @@ weight_set (suc x ∷ xs) zero (suc v) l p f (inr s) = omega arith
 weight_set (zero ∷ xs) (suc i) (suc v) l p f d = omega (arith, weight_set xs i (suc v) (omega arith) p f d)
 weight_set (suc x ∷ xs) (suc i) (suc v) l p f d = omega (arith, weight_set xs i (suc v) (omega arith) p f d)
 
-pub triple_same : (a b c a' b' c' : ℕ) → a ≡ a' → b ≡ b' → c ≡ c' → let x : Triple = (a, b, c) in let y : Triple = (a', b', c') in x ≡ y
-triple_same a b c a' b' c' e f g = ap (λ n. (n, b, c)) e ∙ ap (λ n. (a', n, c)) f ∙ ap (λ n. (a', b', n)) g
-
 -- two facts at one place are one
 place_same : (c : Scope) (p q : Triple) → In c p → In c q → place c.states p ≡ place c.states q → q ≡ p
-place_same c p q i j e =
-    let s = c.states in
-    let a = sym (digits_div (p.0 * s + p.1) i.to) ∙ ap (λ n. n / s) e ∙ digits_div (q.0 * s + q.1) j.to in
-    let b = sym (digits_div p.0 i.from) ∙ ap (λ n. n / s) a ∙ digits_div q.0 j.from in
-    let z₂ : q.2 ≡ p.2 = omega (arith, ap (λ n. n * s) a) in
-    let z₁ : q.1 ≡ p.1 = omega (arith, ap (λ n. n * s) b) in
-    triple_same q.0 q.1 q.2 p.0 p.1 p.2 (sym b) z₁ z₂
+place_same c p q i j e = sym (spot_place c.states q j.from j.to) ∙ ap (spot c.states) (sym e) ∙ spot_place c.states p i.from i.to
 
 -- a fact's place is in the table
 pub place_in : (c : Scope) (long : ℕ) (p : Triple) → c.symbols * c.states * c.states ≤ long → In c p → place c.states p < long
-place_in c long p l i =
-    let s = c.states in
-    let a : (p.0 + 1) * s ≤ c.symbols * s = mul-le-mul_right s (omega (arith, i.symbol)) in
-    let b : (p.0 * s + p.1 + 1) * s ≤ c.symbols * s * s = mul-le-mul_right s (omega (arith, i.from)) in
-    omega (arith, i.to)
+place_in c long p l i = omega (arith, place_below c.states c.symbols p.0 p.1 p.2 i.symbol i.from i.to)
 
 module _ (rules : List Rule) where
   -- one lowering, to the steps of a walk

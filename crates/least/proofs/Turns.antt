@@ -12,7 +12,8 @@ use Rattle.language.specs.declared.rule.Rule.TheVariants.{Empty, Letter, Lead, S
 use Rattle.least.specs.declared.scope.Scope.{Scope}
 use Rattle.least.specs.declared.table.Table.{Table}
 use Rattle.least.specs.Walks.{Walk}
-use Rattle.least.specs.Entries.{ground_of, place, entry_of, In, AtMost, Closed}
+use Rattle.logic.specs.Layouts.{place}
+use Rattle.least.specs.Entries.{ground_of, entry_of, In, AtMost, Closed}
 use Rattle.least.specs.Lowering.{Lowers, Given, Lifted, Summed, Run, PairAt, Lower, LedAt, LedAlong, LetterAt, EmptyAt, ShutAt, ShutStart, ShutStarts, ShutAll, ShutIn, ShutRule, FirstPart}
 use Rattle.least.proofs.Walking.{walk_from}
 use Rattle.least.proofs.Runs.{place_in, run_of, run_none, run_like}

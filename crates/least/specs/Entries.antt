@@ -1,8 +1,9 @@
 -- Tables of step counts: an entry for each fact, 0 for none, and otherwise one more than the steps of a path behind it.
-use Rattle.std.specs.Prelude.{◌≡◌, ℕ, ◌+◌, ◌*◌, ◌<◌, ◌≤◌, List, slice_index}
+use Rattle.std.specs.Prelude.{◌≡◌, ℕ, ◌+◌, ◌<◌, ◌≤◌, List, slice_index}
 use Rattle.model.specs.Relations.{Among, Triple}
 use Rattle.language.specs.declared.rule.Rule.{Rule}
 use Rattle.logic.specs.Facts.{Ground}
+use Rattle.logic.specs.Layouts.{place}
 use Rattle.least.specs.declared.fact.Fact.{Fact}
 use Rattle.least.specs.declared.scope.Scope.{Scope}
 use Rattle.least.specs.declared.table.Table.{Table}
@@ -14,10 +15,6 @@ ground_of c = c.ground.now
 
 abbrev pub triple : Fact → Triple
 triple f = (f.symbol, f.from, f.to)
-
--- the place of a fact in a table, at s states
-abbrev pub place : ℕ → Triple → ℕ
-place s p = (p.0 * s + p.1) * s + p.2
 
 -- the entry of a fact
 abbrev pub entry_of : Table → Triple → ℕ

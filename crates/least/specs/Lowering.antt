@@ -7,7 +7,8 @@ use Rattle.language.specs.declared.rule.Rule.{Rule}
 use Rattle.language.specs.declared.rule.Rule.TheVariants.{Empty, Letter, Lead, Same, Pair}
 use Rattle.least.specs.declared.table.Table.{Table}
 use Rattle.least.specs.Walks.{GivesIn}
-use Rattle.least.specs.Entries.{ground_of, place, entry_of, In, Known, AtMost, Sound}
+use Rattle.logic.specs.Layouts.{place}
+use Rattle.least.specs.Entries.{ground_of, entry_of, In, Known, AtMost, Sound}
 
 -- the entry at the cell was lowered to a candidate, or no candidate below the top is lower
 pub record Lowers (top cell : ℕ) (Candidate : Table → ℕ → Type 0) (before after : Table) (fell : Bool) : Type 0 where

@@ -1,3 +1,4 @@
 pub mod Inside
 pub mod Mapping
 pub mod GuardedPaths
+pub mod Layouts

@@ -2,5 +2,7 @@
 #![tactic(auto)]
 
 mod guarded_model;
+mod layout;
 
 pub use guarded_model::GuardedModel;
+pub use layout::Layout;

@@ -4,8 +4,10 @@ use native.Mathlib.Decide.{dec_lt, ℕ_discrete}
 use Rattle.std.proofs.lemmas.Nat.{div-add-mod', div-mul-add, mod-mul-add, mod_below, mul-le}
 use Rattle.model.specs.declared.number_set.NumberSet.{NumberSet}
 use Rattle.model.specs.Sets.{Has}
-use Rattle.model.specs.Relations.{Joined}
-use Rattle.until.specs.Notes.{Written, spot}
+use Rattle.model.specs.Relations.{Triple, Joined}
+use Rattle.logic.specs.Layouts.{spot}
+use Rattle.logic.proofs.Layouts.{place_of, spot_place}
+use Rattle.until.specs.Notes.{Written}
 use Rattle.triples.specs.Triples.{row_of, Holds, TriplesBelow}
 
 pub written_none : (P : ℕ → Type 0) (v : ℕ) (ws : List ℕ) → ((k : ℕ) → P k → ⊥) → Written P v ws ws
@@ -36,21 +38,6 @@ pub written_more : (P Q : ℕ → Type 0) (i v : ℕ) (before ws : List ℕ) →
 written_more P Q i v before ws l up here only w =
     written_like (λ k. P k ⊎ (k ≡ i)) Q v before (set ws i v) (λ k. ⊎_elim (up k) (λ e. subst Q (sym e) here)) only (written_both P (λ k. k ≡ i) v before ws (set ws i v) w (written_one i v ws l))
 
--- the place of a fact among n states
-pub place_of : (n x s k : ℕ) → k / n / n ≡ x → k / n % n ≡ s → k ≡ (x * n + s) * n + k % n
-place_of n x s k e₁ e₂ =
-    let line : k / n ≡ x * n + s = sym (div-add-mod' (k / n) n) ∙ ap (λ q. q * n + k / n % n) e₁ ∙ ap (λ q. x * n + q) e₂ in
-    sym (div-add-mod' k n) ∙ ap (λ q. q * n + k % n) line
-
-pub place_below : (n m x s t : ℕ) → x < m → s < n → t < n → (x * n + s) * n + t < m * n * n
-place_below n m x s t lx ls lt =
-    let lines : (x * n + s + 1) ≤ m * n = omega (arith, mul-le (x + 1) n m n (omega arith) (omega arith), add-mul x 1 n) in
-    omega (arith, mul-le (x * n + s + 1) n (m * n) n lines (omega arith), add-mul (x * n + s) 1 n)
-
-pub spot_below : (n m k : ℕ) → 0 < n → k / n / n < m → k < m * n * n
-spot_below n m k pos l =
-    subst (λ j. j < m * n * n) (sym (place_of n (k / n / n) (k / n % n) k refl refl)) (place_below n m (k / n / n) (k / n % n) (k % n) l (mod_below (k / n) n pos) (mod_below k n pos))
-
 -- the places of one row
 module _ (n x s : ℕ) (rows : List NumberSet) (row : NumberSet) {m : ℕ} (small : n ≤ 32) (within : s < n) (is_row : row ≡ row_of rows x s) (below : TriplesBelow m n (Holds rows)) where
   pub row_to_below : (t : ℕ) → Has row t → t < n
@@ -58,13 +45,9 @@ module _ (n x s : ℕ) (rows : List NumberSet) (row : NumberSet) {m : ℕ} (smal
 
   line_to : (k : ℕ) → (t : ℕ) × (k ≡ (x * n + s) * n + t) × Has row t → (k / n / n ≡ x) × (k / n % n ≡ s) × Holds rows (spot n k)
   line_to k (t, e, h) =
-      let l = row_to_below t h in
-      let line : k / n ≡ x * n + s = ap (λ q. q / n) e ∙ div-mul-add (x * n + s) n t l in
-      let to : k % n ≡ t = ap (λ q. q % n) e ∙ mod-mul-add (x * n + s) n t l in
-      let symbol : k / n / n ≡ x = ap (λ q. q / n) line ∙ div-mul-add x n s within in
-      let from : k / n % n ≡ s = ap (λ q. q % n) line ∙ mod-mul-add x n s within in
+      let same : spot n k ≡ (x, s, t) = ap (spot n) e ∙ spot_place n (x, s, t) within (row_to_below t h) in
       let there : Holds rows (x, s, t) = (omega arith, subst (λ y. Has y t) is_row h) in
-      (symbol, from, subst (λ y. Holds rows (y, k / n % n, k % n)) (sym symbol) (subst (λ y. Holds rows (x, y, k % n)) (sym from) (subst (λ y. Holds rows (x, s, y)) (sym to) there)))
+      (ap (λ (f : Triple). f.0) same, ap (λ (f : Triple). f.1) same, subst (Holds rows) (sym same) there)
 
   line_from : (k : ℕ) → (k / n / n ≡ x) × (k / n % n ≡ s) × Holds rows (spot n k) → (t : ℕ) × (k ≡ (x * n + s) * n + t) × Has row t
   line_from k (e₁, e₂, h) =

@@ -4,14 +4,13 @@ ghost use Rattle.model.specs.Relations.{Exactly};
 ghost use Rattle.language.specs.Derivations.{Derives};
 ghost use Rattle.logic.specs.Facts.{Fact, LeastHeight};
 ghost use Rattle.triples.specs.Triples.{Holds};
-ghost use Rattle.until.specs.Notes.{spot};
+ghost use Rattle.logic.specs.Layouts.{spot};
 
-use crate::layout::Layout;
 use crate::noting::{clear, note};
 use crate::parts::Parts;
 use crate::rounds::{first_facts, further_facts};
 use language::{Fitting, UntilLanguage};
-use logic::GuardedModel;
+use logic::{GuardedModel, Layout};
 use triples::TripleSet;
 
 // All facts, round by round until a round finds no more; each fact is combined with the others in one round only.

@@ -3,7 +3,6 @@
 #![tactic(auto)]
 
 mod filling;
-mod layout;
 mod marking;
 mod noting;
 mod parts;

@@ -1,10 +1,11 @@
 // The work table: for each fact the round in which it came.
 ghost use Rattle.std.specs.Prelude.{◌≡◌, ℕ, ◌+◌, ◌*◌, ◌/◌, ◌<◌, ◌≤◌, length};
 ghost use Rattle.model.specs.Sets.{Has};
-ghost use Rattle.until.specs.Notes.{Written, spot};
+ghost use Rattle.logic.specs.Layouts.{spot};
+ghost use Rattle.until.specs.Notes.{Written};
 ghost use Rattle.triples.specs.Triples.{Holds, TriplesBelow};
 
-use crate::layout::Layout;
+use logic::Layout;
 use model::NumberSet;
 use triples::TripleSet;
 

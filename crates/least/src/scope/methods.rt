@@ -1,11 +1,9 @@
-ghost use Rattle.std.specs.Prelude.{◌≡◌, ◌*◌, ◌≤◌, Decides};
+ghost use Rattle.std.specs.Prelude.{◌≡◌, ◌≤◌, Decides};
 ghost use Rattle.model.specs.Models.{edges_of};
 ghost use Rattle.model.specs.Sets.{Has};
-ghost use Rattle.least.specs.Entries.{place, triple, In};
 
-use crate::fact::Fact;
 use crate::scope::Scope;
-use logic::GuardedModel;
+use logic::{GuardedModel, Layout};
 use model::Edge;
 
 impl<'a> Scope<'a> {
@@ -43,19 +41,14 @@ impl<'a> Scope<'a> {
         self.ground.admits(state)
     }
 
-    // How many facts there are.
-    pub(crate) fn cells(&self) -> usize
-        ensures { result ≡ self.now.symbols * self.now.states * self.now.states }
+    // How the facts lie in a table.
+    pub(crate) fn layout(&self) -> Layout
+        ensures symbols { result.symbols ≡ self.now.symbols }
+        ensures states { result.states ≡ self.now.states }
     {
-        self.symbols as usize * self.states as usize * self.states as usize
-    }
-
-    // Where the table has the entry of a fact.
-    pub(crate) fn cell(&self, fact: Fact) -> usize
-        requires { In self.now (triple fact) }
-        ensures { result ≡ place self.now.states (triple fact) }
-    {
-        let row = fact.symbol as usize * self.states as usize + fact.from as usize;
-        row * self.states as usize + fact.to as usize
+        Layout {
+            symbols: self.symbols,
+            states: self.states,
+        }
     }
 }

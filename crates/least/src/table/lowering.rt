@@ -60,23 +60,21 @@ impl Table<'_> {
     }
 
     // Whether the entry `known` with one of the row at `others` gives less than stands in the row at `heads`.
+    // A fold over all of them, and no `any`: one that stops early looks at them one by one, which took twice as long.
     pub(crate) fn any_lower(&self, top: u16, known: u32, others: usize, heads: usize) -> bool
         requires some { 0 < known }
         requires low { known ≤ top }
         requires others { others + self.now.scope.states ≤ length self.now.entries.now }
         requires heads { heads + self.now.scope.states ≤ length self.now.entries.now }
-        ensures { result ≡ false → (k : ℕ) → k < self.now.scope.states → Lower top known (slice_index self.now.entries.now (others + k)) (slice_index self.now.entries.now (heads + k)) → ⊥ }
+        ensures { Decides result ((k : ℕ) × (k < self.now.scope.states) × Lower top known (slice_index self.now.entries.now (others + k)) (slice_index self.now.entries.now (heads + k))) }
     {
-        let mut lower = false;
-        // by place: a chain over both rows would first cut two slices out of the table, with a bound for each
-        for k in 0..self.states() as usize {
-            lower |= is_lower(
-                top,
-                known,
-                self.entries[others + k],
-                self.entries[heads + k],
-            );
-        }
-        lower
+        let states = self.states() as usize;
+        self.entries[others..others + states]
+            .iter()
+            .zip(&self.entries[heads..heads + states])
+            .fold(
+                false,
+                |lower, (second, old)| lower | is_lower(top, known, *second, *old),
+            )
     }
 }

@@ -2,7 +2,8 @@ ghost use Rattle.std.specs.Prelude.{◌≡◌, ◌*◌, ◌≤◌, length, Decid
 ghost use Rattle.model.specs.Models.{edges_of};
 ghost use Rattle.model.specs.Sets.{Has};
 ghost use Rattle.model.specs.Relations.{Triple};
-ghost use Rattle.least.specs.Entries.{triple, place, entry_of, In};
+ghost use Rattle.logic.specs.Layouts.{place};
+ghost use Rattle.least.specs.Entries.{triple, entry_of, In};
 
 use crate::fact::Fact;
 use crate::scope::Scope;
@@ -16,7 +17,7 @@ impl<'a> Table<'a> {
         ensures scope { result.scope ≡ scope.entry }
         ensures none { (p : Triple) → In scope.entry p → entry_of result p ≡ 0 }
     {
-        entries[..scope.cells()].fill(0);
+        entries[..scope.layout().entries()].fill(0);
         Table { scope, entries }
     }
 
@@ -43,10 +44,9 @@ impl<'a> Table<'a> {
 
     // Where the entry of a fact stands.
     pub(crate) fn cell(&self, fact: Fact) -> usize
-        requires { In self.now.scope (triple fact) }
         ensures { result ≡ place self.now.scope.states (triple fact) }
     {
-        self.scope.cell(fact)
+        self.scope.layout().cell(fact.symbol, fact.from, fact.to)
     }
 
     // All entries, and what follows them in the lent memory.

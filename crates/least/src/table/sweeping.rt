@@ -74,9 +74,10 @@ impl Table<'_> {
         }
     }
 
-    // Lowers by the rules with the facts that have an entry in the band. `start`, and the other functions that go over rows
-    // or edges, have a loop of their own, of one line: one with the
-    // turn as a closure over the table would have to say in its contract what each call does to the table.
+    // Lowers by the rules with the facts that have an entry in the band. `start` has the same loop round another call, as
+    // rows and edges have theirs. Tried as one: after a `fold` nothing is known of the table that its closure lowered; a
+    // function with the turn as a closure has to say for each property of a rule what holds of the table then, and a clause
+    // over all properties is refused (it is of `Type 1`); with a list of its calls instead it is longer than the two loops.
     pub fn sweep<L: UntilLanguage>(&mut self, rules: Rules<L>, top: u16, band: Band) -> bool
         requires { RulesWithin self.old.scope.symbols rules }
         ensures { Run rules.entry (ShutAll rules.entry top (low_of band) (high_of band)) self.old self.new result }

@@ -7,6 +7,7 @@ ghost use Rattle.sheet.specs.Causes.{Full, CauseProposition, CauseNot, CauseOr, 
 
 use crate::sheet::Sheet;
 use language::{Fitting, UntilLanguage, Watcher};
+use logic::Layout;
 use model::{NumberSet, Refusal};
 use release::Watched;
 
@@ -70,8 +71,11 @@ impl Sheet<'_> {
             return Err(Refusal::OtherAlphabet);
         }
         let fitting = Fitting::of(language)?;
-        let states = self.model.states() as usize;
-        if work < fitting.symbols() as usize * states * states {
+        let layout = Layout {
+            symbols: fitting.symbols(),
+            states: self.model.states(),
+        };
+        if work < layout.entries() {
             return Err(Refusal::WorkTooShort);
         }
         Ok(fitting)

@@ -2,9 +2,9 @@ use Rattle.std.proofs.Common.{◌≡◌, ℕ, ◌+◌, ◌*◌, ◌<◌, get_or,
 use Rattle.language.proofs.Naming.{rules_more}
 use Rattle.logic.specs.Facts.{FactWithin, LeastHeight}
 use Rattle.until.proofs.Facts.{first_new, exact_below, lacking_below, height_joined, next_new, settled_all, entry_none, entry_more, entry_end}
-use Rattle.until.proofs.Notes.{spot_below}
+use Rattle.logic.proofs.Layouts.{spot_below}
 use Rattle.triples.specs.Triples.{Holds}
-use Rattle.until.specs.Notes.{spot}
+use Rattle.logic.specs.Layouts.{spot}
 use Rattle.triples.proofs.TripleRows.{holds_dec}
 use Rattle.triples.proofs.TripleSizes.{table_grows, table_same}
 use Rattle.until.proofs.filling.fill.Goals as goal

@@ -3,7 +3,7 @@ use Rattle.model.specs.Relations.{Exactly}
 use Rattle.logic.specs.Facts.{FactWithin}
 use Rattle.until.proofs.Facts.{New, Entry}
 use Rattle.triples.specs.Triples.{Holds, size}
-use Rattle.until.specs.Notes.{spot}
+use Rattle.logic.specs.Layouts.{spot}
 use Rattle.until.proofs.filling.fill.Given as goal
 
 abbrev pub invariant-loop-size : goal.invariant-loop-size

@@ -1,5 +1,6 @@
 use Rattle.std.proofs.Common.{arith}
-use Rattle.until.proofs.Notes.{written_none, written_like, row_written, row_to_below, place_below}
+use Rattle.logic.proofs.Layouts.{place_below}
+use Rattle.until.proofs.Notes.{written_none, written_like, row_written, row_to_below}
 use Rattle.until.proofs.noting.note_symbol.Goals as goal
 
 pub loop-from-init : goal.loop-from-init

@@ -1,5 +1,6 @@
 use Rattle.std.proofs.Common.{◌≡◌, ◌/◌, ◌%◌, ◌<◌}
-use Rattle.until.specs.Notes.{Written, spot}
+use Rattle.logic.specs.Layouts.{spot}
+use Rattle.until.specs.Notes.{Written}
 use Rattle.triples.specs.Triples.{Holds}
 use Rattle.until.proofs.noting.note_symbol.Given as goal
 

@@ -1,5 +1,6 @@
-use Rattle.std.proofs.Common.{◌≡◌, ◌+◌, ◌<◌, get_or, refl, ap, arith}
-use Rattle.least.specs.Entries.{place}
+use Rattle.std.proofs.Common.{◌≡◌, ◌+◌, ◌<◌, get_or, ap, arith}
+use mathlib.Core.Bool.{false≢true}
+use Rattle.logic.specs.Layouts.{place}
 use Rattle.least.proofs.Runs.{run_like, run_more, same_scope}
 use Rattle.least.proofs.Turns.{is_in, in_at, place_at, in_table, row_in, pair_turn, left_all, left_none}
 use Rattle.least.proofs.table.Table.expand_left.Goals as goal
@@ -12,7 +13,7 @@ any_lower-requires-clause-heads c = row_in c.args.self.now _ _ _ c.requires.head
 
 pub returns-then-not-any_lower : goal.returns-then-not-any_lower
 returns-then-not-any_lower c rules r∈ =
-    left_none rules _ _ _ _ _ _ _ _ _ _ (ap (λ x. get_or c.args.self.now.entries.now x 0) c.cell-part.ensures) c.cell-others.ensures c.cell-heads.ensures (c.if-not-any_lower.ensures refl)
+    left_none rules _ _ _ _ _ _ _ _ _ _ (ap (λ x. get_or c.args.self.now.entries.now x 0) c.cell-part.ensures) c.cell-others.ensures c.cell-heads.ensures (λ k l y. false≢true (c.if-not-any_lower.ensures.1 (k, l, y)))
 
 pub join-fell-requires-clause-right : goal.join-fell-requires-clause-right
 join-fell-requires-clause-right c =

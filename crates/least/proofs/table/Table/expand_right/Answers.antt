@@ -3,12 +3,6 @@ use Rattle.least.proofs.Runs.{run_like, run_more, same_scope}
 use Rattle.least.proofs.Turns.{is_in, in_at, place_at, in_table, pair_turn}
 use Rattle.least.proofs.table.Table.expand_right.Goals as goal
 
-pub cell-other-requires : goal.cell-other-requires
-cell-other-requires c = in_at c.args.self.now.scope c.loop-from.self.scope _ (same_scope c.loop-from.invariant) (is_in c.args.self.now.scope _ _ _ c.requires.left (omega (arith, c.loop-from-test.true, c.states-from-end.ensures)) c.requires.fact.from)
-
-pub cell-cell-requires : goal.cell-cell-requires
-cell-cell-requires c = in_at c.args.self.now.scope c.loop-from.self.scope _ (same_scope c.loop-from.invariant) (is_in c.args.self.now.scope _ _ _ c.requires.head (omega (arith, c.loop-from-test.true, c.states-from-end.ensures)) c.requires.fact.to)
-
 pub join-fell-requires-clause-left : goal.join-fell-requires-clause-left
 join-fell-requires-clause-left c = in_table c.loop-from.self _ _ (in_at c.args.self.now.scope c.loop-from.self.scope _ (same_scope c.loop-from.invariant) (is_in c.args.self.now.scope _ _ _ c.requires.left (omega (arith, c.loop-from-test.true, c.states-from-end.ensures)) c.requires.fact.from)) c.cell-other.ensures
 

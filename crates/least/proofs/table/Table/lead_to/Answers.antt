@@ -3,9 +3,6 @@ use Rattle.least.proofs.Runs.{run_like}
 use Rattle.least.proofs.Turns.{is_in, ends_in, in_table, lead_turn}
 use Rattle.least.proofs.table.Table.lead_to.Goals as goal
 
-pub cell-cell-requires : goal.cell-cell-requires
-cell-cell-requires c = is_in c.args.self.now.scope _ _ _ c.requires.head (ends_in c.args.self.now.scope _ c.requires.edge).0 c.requires.rest.to
-
 pub lift-requires-clause-part : goal.lift-requires-clause-part
 lift-requires-clause-part c = in_table c.args.self.now _ _ c.requires.rest c.cell-part.ensures
 

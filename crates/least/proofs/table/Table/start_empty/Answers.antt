@@ -3,11 +3,6 @@ use Rattle.least.proofs.Runs.{run_like, run_more, same_scope}
 use Rattle.least.proofs.Turns.{is_in, in_at, in_table, empty_turn, empty_all}
 use Rattle.least.proofs.table.Table.start_empty.Goals as goal
 
-pub cell-cell-requires : goal.cell-cell-requires
-cell-cell-requires c =
-    let l : c.loop-state.state < c.args.self.now.scope.states = omega (arith, c.loop-state-test.true, c.states-state-end.ensures) in
-    in_at c.args.self.now.scope c.loop-state.self.scope _ (same_scope c.loop-state.invariant) (is_in c.args.self.now.scope _ _ _ c.requires l l)
-
 pub lower-fell-requires-clause-cell : goal.lower-fell-requires-clause-cell
 lower-fell-requires-clause-cell c =
     let l : c.loop-state.state < c.args.self.now.scope.states = omega (arith, c.loop-state-test.true, c.states-state-end.ensures) in
