@@ -8,6 +8,8 @@ use language::{Watcher, check_states};
 use model::Refusal;
 
 // Runs the watcher over the word; one with more than 32 states is refused, and a word of the set has known actions alone.
+// The loop stays, which ends at the first step that is not there: with `try_fold` the clauses `right` and `known` stayed
+// open, since no lemma of the library ties what comes of it to a fold over the word.
 pub fn accepts<W: Watcher>(watcher: &W, word: &[u8]) -> Result<bool, Refusal>
     ensures cause { CauseManyStates (W.Watcher.table watcher.now) (refusal result) }
     ensures right { IfOk result (λ yes. Decides yes (W.Watcher.words watcher.now word.now)) }
