@@ -1,5 +1,5 @@
 -- What one turn of a lowering loop does, and all of them.
-use Rattle.std.proofs.Common.{◌≡◌, ℕ, ◌+◌, ◌-◌, ◌^◌, ◌<◌, ◌≤◌, Bool, false, ◌⊎◌, List, length, get_or, Some, sym, refl, ap, ◌∙◌, subst, inl, inr, ⊎_elim, arith}
+use Rattle.std.proofs.Common.{◌≡◌, ℕ, ◌+◌, ◌-◌, ◌^◌, ◌<◌, ◌≤◌, Bool, false, List, length, get_or, Some, sym, refl, ap, ◌∙◌, subst, inl, inr, arith}
 use native.Mathlib.Decide.{dec_le, ℕ_discrete}
 use Rattle.std.specs.List.{slice_get}
 use Rattle.std.proofs.lemmas.Option.{slice_get-get_or}
@@ -32,6 +32,9 @@ in_table t cell p i e = subst (λ n. n < length t.entries.now) (sym e) (place_in
 -- the same, where the table's scope is as it was
 pub in_at : (c d : Scope) (p : Triple) → d ≡ c → In c p → In d p
 in_at c d p e i = subst (λ z. In z p) (sym e) i
+
+pub is_at : (c d : Scope) {X u t : ℕ} → d ≡ c → X < c.symbols → u < c.states → t < c.states → In d (X, u, t)
+is_at c d {X} {u} {t} e a b l = in_at c d (X, u, t) e (is_in c X u t a b l)
 
 pub place_at : (c d : Scope) (cell : ℕ) (p : Triple) → d ≡ c → cell ≡ place c.states p → cell ≡ place d.states p
 place_at c d cell p e is = subst (λ z. cell ≡ place z.states p) (sym e) is
@@ -66,11 +69,7 @@ module _ (rules : List Rule) (top : ℕ) where
       subst (λ (y : Triple). AtMost n (entry_of a y)) (ap (λ y. (y, s, p.2)) (sym x) ∙ ap (λ y. (p.0, y, p.2)) (sym e₁))
       (at p.2 kn₂.there.to n (i, j, subst (λ (y : Triple). entry_of a y ≡ i + 1) q kn₁.is, subst (λ y. entry_of a (C, y, p.2) ≡ j + 1) e₂ kn₂.is, z) n<)) j
 
-  -- a fact with no entry, or one above the top, gives nothing less
-  pub left_far : (H B C s u : ℕ) (w : Table) → (entry_of w (B, s, u) ≡ 0) ⊎ (top < entry_of w (B, s, u)) → Run rules (ShutAt top (Pair H B C) (B, s, u)) w w false
-  left_far H B C s u w far = left_all H B C s u w w false (run_none rules w _ (λ t l n (i, j, e₁, e₂, z) n<. ⊎_elim (λ y. absurd (omega arith)) (λ y. absurd (omega arith)) far))
-
-  -- nor does one with which no entry of the row is lower
+  -- a fact with which no entry of the row is lower gives nothing less
   pub left_none : (H B C s u known others heads : ℕ) (w : Table) → known ≡ entry_of w (B, s, u) → others ≡ place w.scope.states (C, u, 0) → heads ≡ place w.scope.states (H, s, 0)
       → ((k : ℕ) → k < w.scope.states → Lower top known (get_or w.entries.now (others + k) 0) (get_or w.entries.now (heads + k) 0) → ⊥) → Run rules (ShutAt top (Pair H B C) (B, s, u)) w w false
   left_none H B C s u known others heads w e o h none = left_all H B C s u w w false (run_none rules w _ (λ t l n (i, j, e₁, e₂, z) n<.

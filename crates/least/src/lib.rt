@@ -1,4 +1,5 @@
-// Least step counts: for each symbol and two states, the fewest steps of a guarded path between them whose word the symbol derives.
+// Least step counts: for each symbol and two states, the fewest steps of a guarded path between them whose word the
+// symbol derives.
 #![tactic(auto)]
 
 mod band;

@@ -2,8 +2,8 @@
 ghost use Rattle.std.specs.Prelude.{◌≡◌, ◌+◌, ◌*◌, ◌≤◌};
 ghost use Rattle.logic.specs.Layouts.{place};
 
-// For each of the symbols and each from-state as many entries as there are states, one for each to-state. A table stays a slice
-// beside it: callers promise what stands in the slice afterwards, which a struct that borrows it would hide.
+// For each of the symbols and each from-state as many entries as there are states, one for each to-state. A table stays
+// a slice beside it: callers promise what stands in the slice afterwards, which a struct that borrows it would hide.
 #[derive(Clone, Copy, PartialEq, Eq, Debug)]
 pub struct Layout {
     pub symbols: u8,

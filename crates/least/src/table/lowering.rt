@@ -1,5 +1,5 @@
 // Lowering one entry.
-ghost use Rattle.std.specs.Prelude.{◌≡◌, ℕ, ◌+◌, ◌<◌, ◌≤◌, false, length, Decides, slice_index};
+ghost use Rattle.std.specs.Prelude.{ℕ, ◌+◌, ◌<◌, ◌≤◌, length, Decides, slice_index};
 ghost use Rattle.least.specs.Lowering.{Lowers, Given, Lifted, Summed, Lower};
 
 use crate::table::Table;

@@ -2,7 +2,7 @@ use Rattle.std.proofs.Common.{◌<◌, sym, refl, subst, arith}
 use Rattle.model.specs.Sets.{Has}
 use Rattle.least.specs.declared.scope.Scope.{Scope}
 use Rattle.least.proofs.Runs.{run_like, run_more, same_scope}
-use Rattle.least.proofs.Turns.{is_in, in_at, edge_at, ends_in}
+use Rattle.least.proofs.Turns.{is_at, edge_at, ends_in}
 use Rattle.least.proofs.table.Table.lead_along.Goals as goal
 
 pub lead_to-fell-requires-clause-edge : goal.lead_to-fell-requires-clause-edge
@@ -13,7 +13,7 @@ lead_to-fell-requires-clause-guarded c =
     subst (λ (z : Scope). Has z.ground.now.guard c.args.edge.from) (sym (same_scope c.loop-to.invariant)) (c.if-not-admits.ensures.0 refl)
 
 pub lead_to-fell-requires-clause-rest : goal.lead_to-fell-requires-clause-rest
-lead_to-fell-requires-clause-rest c = in_at c.args.self.now.scope c.loop-to.self.scope _ (same_scope c.loop-to.invariant) (is_in c.args.self.now.scope _ _ _ c.requires.rest (ends_in c.args.self.now.scope _ c.requires.edge).1 (omega (arith, c.loop-to-test.true, c.states-to-end.ensures)))
+lead_to-fell-requires-clause-rest c = is_at c.args.self.now.scope c.loop-to.self.scope (same_scope c.loop-to.invariant) c.requires.rest (ends_in c.args.self.now.scope _ c.requires.edge).1 (omega (arith, c.loop-to-test.true, c.states-to-end.ensures))
 
 pub lead_to-fell-requires-clause-head : goal.lead_to-fell-requires-clause-head
 lead_to-fell-requires-clause-head c = subst (λ (z : Scope). c.args.lead.head < z.symbols) (sym (same_scope c.loop-to.invariant)) c.requires.head

@@ -1,9 +1,8 @@
 use Rattle.std.proofs.Common.{sym, subst}
-use Rattle.model.specs.Relations.{Among}
-use Rattle.language.proofs.Coming.{coming_among, all_came}
+use Rattle.language.proofs.Coming.{coming_among}
 use Rattle.language.specs.Rules.{SymbolsBelow}
 use Rattle.least.specs.declared.scope.Scope.{Scope}
-use Rattle.least.proofs.Runs.{run_like, run_next}
+use Rattle.least.proofs.Runs.{run_next}
 use Rattle.least.proofs.table.Table.start.Goals as goal
 
 pub start_rule-fell-requires : goal.start_rule-fell-requires
@@ -15,8 +14,3 @@ pub loop-rule-preserved : goal.loop-rule-preserved
 loop-rule-preserved g c =
     let among = coming_among _ c.into_iter-rule-iterator.ensures.into_iter_gives c.loop-rule.yielded_by c.in-Some.ensures.steps in
     run_next _ _ _ c.loop-rule.invariant (c.start_rule-fell.ensures _ among)
-
-pub returns : goal.returns
-returns g c =
-    let all = all_came _ c.into_iter-rule-iterator.ensures.into_iter_gives c.loop-rule.yielded_by c.in-None.ensures.steps.0 in
-    run_like _ _ (λ at r r∈. at r (subst (Among r) (sym all) r∈)) c.loop-rule.invariant
