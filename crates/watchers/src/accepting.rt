@@ -8,20 +8,15 @@ use language::{Watcher, check_states};
 use model::Refusal;
 
 // Runs the watcher over the word; one with more than 32 states is refused, and a word of the set has known actions alone.
-// The loop stays, which ends at the first step that is not there: with `try_fold` the clauses `right` and `known` stayed
-// open, since no lemma of the library ties what comes of it to a fold over the word.
 pub fn accepts<W: Watcher>(watcher: &W, word: &[u8]) -> Result<bool, Refusal>
     ensures cause { CauseManyStates (W.Watcher.table watcher.now) (refusal result) }
     ensures right { IfOk result (λ yes. Decides yes (W.Watcher.words watcher.now word.now)) }
     ensures known { result ≡ Ok true → Known (W.Alphabet.known watcher.now) word.now }
 {
     check_states(watcher)?;
-    let mut state = watcher.start();
-    for action in word {
-        match watcher.next(state, *action) {
-            Some(to) => state = to,
-            None => return Ok(false),
-        }
-    }
-    Ok(watcher.is_marked(state))
+    let end = word.iter().try_fold(
+        watcher.start(),
+        |state, action| watcher.next(state, *action),
+    );
+    Ok(end.is_some_and(|state| watcher.is_marked(state)))
 }
