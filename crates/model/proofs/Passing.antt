@@ -3,19 +3,12 @@ use Rattle.std.proofs.Common.{◌≡◌, ℕ, ◌+◌, ◌<◌, Bool, true, fals
 use Rattle.std.proofs.lemmas.Bool.{cases_eq, false≢true}
 use Rattle.model.specs.declared.number_set.NumberSet.{NumberSet}
 use Rattle.model.specs.Relations.{Joined, Exactly}
-use Rattle.model.specs.Sets.{Has, nothing}
-use Rattle.model.proofs.Bits.{bit_none}
+use Rattle.model.specs.Sets.{Has}
 
 -- the set has those of the numbers below n that pass
 pub record Passed (Post : ℕ → Bool → Type 0) (x : NumberSet) (n : ℕ) : Type 0 where
   pub below : (u : ℕ) → Has x u → u < n
   pub tested : (u : ℕ) → u < n → (passes : Bool) × Post u passes × Decides passes (Has x u)
-
-pub passed_none : (Post : ℕ → Bool → Type 0) (x : NumberSet) → x ≡ nothing → Passed Post x 0
-passed_none Post x e = record {
-  below = λ u h. absurd (bit_none u (subst (λ y. Has y u) e h));
-  tested = λ u l. absurd (omega arith);
-}
 
 pub passed_more : (Post : ℕ → Bool → Type 0) (old new : NumberSet) (t : ℕ) (passes : Bool) → Post t passes → (passes ≡ true → Joined (Has old) (Has new) (λ u. u ≡ t)) → (passes ≡ false → new ≡ old) → Passed Post old t → Passed Post new (t + 1)
 passed_more Post old new t true post more same p = let j = more refl in record {

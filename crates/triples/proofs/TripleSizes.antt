@@ -1,10 +1,11 @@
 -- More facts are a larger count, and no more facts the same.
-use Rattle.std.proofs.Common.{◌≡◌, ℕ, zero, suc, ◌+◌, ◌*◌, ◌/◌, ◌%◌, ◌^◌, ◌<◌, ◌≤◌, List, [], ◌∷◌, length, get_or, replicate, sym, refl, ap, ◌∙◌, subst, inl, inr, ⊎_elim, le_of_eq, add_comm, div-one, add-one, one-add, arith}
+use Rattle.std.proofs.Common.{◌≡◌, ℕ, zero, suc, ◌+◌, ◌*◌, ◌/◌, ◌%◌, ◌^◌, ◌<◌, ◌≤◌, List, [], ◌∷◌, length, get_or, replicate, sym, refl, ap, ◌∙◌, subst, inl, inr, ⊎_elim, le_of_eq, add_comm, add-one, arith}
 use mathlib.Core.Path.{transport}
 use native.Mathlib.Nat.{two-pow-succ}
 use native.Mathlib.Decide.{dec_lt, ℕ_discrete}
 use lib.Count.{ones, ones_step}
-use Rattle.std.proofs.lemmas.Nat.{shr-shr, shr_below, pow_pos}
+use Rattle.std.proofs.lemmas.Nat.{shr_below, pow_pos}
+use Rattle.std.proofs.lemmas.Nat.Bits.{bit_at-suc, bit_at_lowest}
 use Rattle.std.proofs.lemmas.List.{get_or_past}
 use Rattle.std.specs.List.{sum_by}
 use Rattle.std.proofs.lemmas.List.Sums.{sum_by-cons}
@@ -16,10 +17,10 @@ use Rattle.triples.specs.Triples.{Holds, size, Lacking}
 use Rattle.model.proofs.Bits.{has_none}
 
 bit_half : (n t : ℕ) → Bit (n / 2) t ≡ Bit n (suc t)
-bit_half n t = ap (λ k. k % 2 ≡ 1) (shr-shr n 1 t ∙ ap (λ j. n / 2 ^ j) (one-add t))
+bit_half n t = ap (λ k. k ≡ 1) (sym (bit_at-suc n t))
 
 bit_odd : (n : ℕ) → Bit n 0 ≡ (n % 2 ≡ 1)
-bit_odd n = ap (λ k. k % 2 ≡ 1) (div-one n)
+bit_odd n = ap (λ k. k ≡ 1) (bit_at_lowest n)
 
 -- a number is below its power
 below_pow : (a b : ℕ) → a < 2 ^ (a + b)

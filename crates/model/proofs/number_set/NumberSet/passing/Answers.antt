@@ -2,12 +2,9 @@ use Rattle.std.proofs.Common.{sym, ◌∙◌, arith}
 use Rattle.std.proofs.lemmas.Bool.{false≢true}
 use Rattle.model.specs.Sets.{Has}
 use Rattle.model.proofs.Joins.{joined_like, joined_from}
-use Rattle.model.proofs.Passing.{passed_none, passed_more}
+use Rattle.model.proofs.Passing.{passed_more}
 use Rattle.model.proofs.number_set.NumberSet.passing.Goals as goal
 use Rattle.model.proofs.number_set.NumberSet.passing.Goals.{then-test, else-test}
-
-pub loop-t-init : goal.loop-t-init
-loop-t-init g c = passed_none _ _ c.empty-found.ensures
 
 pub loop-t-preserved : goal.loop-t-preserved
 loop-t-preserved g c = passed_more _ c.loop-t.found c.if-test.found c.loop-t.t c.test.result c.test.ensures
@@ -20,9 +17,6 @@ loop-t-preserved g c = passed_more _ c.loop-t.found c.if-test.found c.loop-t.t c
       | else-test w ↦ w.found-is
     ])
     c.loop-t.invariant
-
-pub returns-clause-below : goal.returns-clause-below
-returns-clause-below g c = λ t h. omega (arith, c.loop-t.invariant.below t h, c.loop-t.auto, c.loop-t-test.false)
 
 pub returns-clause-tested : goal.returns-clause-tested
 returns-clause-tested g c = λ t l. c.loop-t.invariant.tested t (omega (arith, c.loop-t-test.false))
