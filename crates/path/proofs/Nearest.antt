@@ -40,16 +40,6 @@ module _ (rules : List Rule) (w : Table) (in_rules : RulesWithin w.scope.symbols
         (let (e, a) = goal_entry p good l in omega (arith, a.low, near.least (end s p) e good.ends a.some))
   ]
 
--- a table with no entry is sound
-pub sound_none : (rules : List Rule) (w : Table) → ((p : Triple) → In w.scope p → entry_of w p ≡ 0) → Sound rules w
-sound_none rules w none p n kn = absurd (omega (arith, kn.is, none p kn.there))
-
--- after the table is closed up to the top, whatever was found
-pub found_either : (rules : List Rule) (w : Table) (goal : NumberSet) (s top : ℕ) (b : Option ℕ) (r : Result ℕ Refusal) → r ≡ ok_or b PathTooLong → Closed rules top w → Best w goal s top w.scope.states b
-    → MatchResult r (λ to. (level : ℕ) × (level ≤ top) × Closed rules level w × Nearest w goal s level w.scope.states to) (λ refusal. (refusal ≡ PathTooLong) × Closed rules top w × Far w goal s top w.scope.states)
-found_either rules w goal s top None r e closed best = rw e (refl, closed, best)
-found_either rules w goal s top (Some t) r e closed best = rw e (top, omega arith, closed, best)
-
 -- a run never makes the table heavier
 pub lighter : (rules : List Rule) (Shut : Table → Type 0) (a b : Table) (x : Bool) → Run rules Shut a b x → weight b.entries.now ≤ weight a.entries.now
 lighter rules Shut a b true j = omega (arith, j.less refl)

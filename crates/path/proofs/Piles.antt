@@ -16,6 +16,3 @@ reverse_last xs ys x e = ap reverse e ∙ reverse-append ys (x ∷ [])
 
 pub reverse_more : {X : Type 0} (xs ys zs : List X) → xs ≡ ys ++ zs → reverse xs ≡ reverse zs ++ reverse ys
 reverse_more xs ys zs e = ap reverse e ∙ reverse-append ys zs
-
-pub same_first : {X : Type 0} (xs : List X) (x y : X) → xs ≡ x ∷ [] → xs ≡ y ∷ [] → x ≡ y
-same_first xs x y e f = cc

@@ -53,15 +53,6 @@ module _ (rules : List Rule) (w : Table) where
       let e₁ = entry_of w (B, s, u) in
       (e₁ - 1, n + 1 - e₁, omega arith, omega arith, omega arith, record { there = i₁; is = omega arith }, record { there = i₂; is = omega arith }, λ v x d₁ d₂. by_pair rules H B C v x r∈ d₁ d₂)
 
-  pub letter_not : (H a s t n : ℕ) → ((e : Edge) × HasEdge w.scope.ground.now.model e × StepsBy w.scope.ground.now.guard a s t e → ⊥) → GivesIn (ground_of w.scope) (Letter H a) (Less w n) (Less w n) (H, s, t) n → ⊥
-  letter_not H a s t n none (x, e, (e∈, f, ea, g), et, z) = none (e, e∈, (f, ea, sym et, g))
-
-  pub lead_not : (H a B s t n : ℕ) → ((e : Edge) → HasEdge w.scope.ground.now.model e → StepsBy w.scope.ground.now.guard a s e.to e → entry_of w (B, e.to, t) ≡ n → ⊥) → GivesIn (ground_of w.scope) (Lead H a B) (Less w n) (Less w n) (H, s, t) n → ⊥
-  lead_not H a B s t n none (x, e, (e∈, f, ea, g), j, (kn, l), z) = none e e∈ (f, ea, refl, g) (kn.is ∙ sym z)
-
-  pub pair_not : (H B C s t n : ℕ) → ((u : ℕ) → u < w.scope.states → Sums w B C s t (n + 1) u → ⊥) → GivesIn (ground_of w.scope) (Pair H B C) (Less w n) (Less w n) (H, s, t) n → ⊥
-  pair_not H B C s t n none (x, u, i, j, (k₁, l₁), (k₂, l₂), z) = none u k₁.there.to (omega (arith, k₁.is), omega (arith, k₁.is), omega (arith, k₁.is, k₂.is))
-
 module _ (rules : List Rule) (w : Table) (sound : Sound rules w) (s t : ℕ) (ls : s < w.scope.states) (lt : t < w.scope.states) where
   -- what a rule keeps
   keeps_derives : (e : ℕ) (r : Rule) (y : ℕ) → Among r rules → SymbolsBelow w.scope.symbols r → Keeps w s t e r y → (y < w.scope.symbols) × (entry_of w (y, s, t) ≡ e) × ((v : Word) → Derives rules y v → Derives rules (head_of r) v)
@@ -141,20 +132,3 @@ splits_from rules w X y s t n up (Last a u) (z, q, e, ld, et, d) = (z, q, e, ld,
 splits_from rules w X y s t n up (Onward a u B) (e, ld, et, j, p, z, kn, d) = (e, ld, et, j, p, z, kn, λ v dv. up _ (d v dv))
 splits_from rules w X y s t n up (Both B u C) (i, j, p, q, z, k₁, k₂, d) = (i, j, p, q, z, k₁, k₂, λ v x dv dx. up _ (d v x dv dx))
 
-pub same_keeps : (w : Table) (s t e H B one rest : ℕ) (all : NumberSet) → one ≡ 1 → rest ≡ entry_of w (B, s, t) → Exactly (Has all) (λ y. (y ≡ B) × (one ≡ 1) × (rest ≡ e)) → Exactly (Has all) (Keeps w s t e (Same H B))
-same_keeps w s t e H B one rest all is eq x y = ((λ h. let (q, z, i) = (x y).0 h in (q, sym eq ∙ i)), λ (q, i). (x y).1 (q, is, eq ∙ i))
-
-pub pair_keeps : (w : Table) (s t e H B C none_left all_right none_right all_left : ℕ) (first second both : NumberSet)
-    → none_left ≡ entry_of w (B, s, s) → all_right ≡ entry_of w (C, s, t) → none_right ≡ entry_of w (C, t, t) → all_left ≡ entry_of w (B, s, t)
-    → Exactly (Has second) (λ y. (y ≡ C) × (none_left ≡ 1) × (all_right ≡ e)) → Exactly (Has first) (λ y. (y ≡ B) × (none_right ≡ 1) × (all_left ≡ e))
-    → Joined (Has second) (Has both) (Has first) → Exactly (Has both) (Keeps w s t e (Pair H B C))
-pair_keeps w s t e H B C none_left all_right none_right all_left first second both ea eb ec ed x₂ x₁ j y = (
-  λ h. ⊎_elim (λ h₂. let (q, z, i) = (x₂ y).0 h₂ in inl (q, sym ea ∙ z, sym eb ∙ i)) (λ h₁. let (q, z, i) = (x₁ y).0 h₁ in inr (q, sym ec ∙ z, sym ed ∙ i)) (j.only y h),
-  λ k. ⊎_elim (λ (q, z, i). j.keeps y ((x₂ y).1 (q, ea ∙ z, eb ∙ i))) (λ (q, z, i). j.puts y ((x₁ y).1 (q, ec ∙ z, ed ∙ i))) k,
-)
-
-pub reached_one : (rules : List Rule) (w : Table) (s t e X : ℕ) (mask : NumberSet) → Exactly (Has mask) (λ y. (y ≡ X) × (X < 32)) → X < w.scope.symbols → entry_of w (X, s, t) ≡ e → Reached rules w s t e X mask
-reached_one rules w s t e X mask is l here = record {
-  first = (is X).1 (refl, omega (arith, w.scope.few_symbols));
-  every = λ y h. let q : y ≡ X = ((is y).0 h).0 in (subst (λ z. z < w.scope.symbols) (sym q) l, subst (λ z. entry_of w (z, s, t) ≡ e) (sym q) here, λ v d. subst (λ z. Derives rules z v) q d);
-}
