@@ -1,23 +1,19 @@
 -- The nearest state of the goal, and what it says of all good paths.
-use Rattle.std.proofs.Common.{◌≡◌, ℕ, ◌-◌, ◌<◌, ◌≤◌, Bool, true, false, List, length, Some, None, Option, Result, refl, ap, subst, arith, MatchResult}
+use Rattle.std.proofs.Common.{◌≡◌, ℕ, ◌-◌, ◌<◌, ◌≤◌, Bool, true, false, List, length, refl, ap, subst, arith}
 use native.Mathlib.Decide.{dec_lt}
-use Rattle.std.specs.Option.{ok_or}
 use Rattle.model.specs.declared.edge.Step.{Step}
 use Rattle.model.specs.declared.number_set.NumberSet.{NumberSet}
 use Rattle.model.specs.Sets.{Has}
-use Rattle.model.specs.declared.refusal.Refusal.{Refusal}
-use Rattle.model.specs.declared.refusal.Refusal.TheVariants.{PathTooLong}
 use Rattle.language.specs.declared.rule.Rule.{Rule}
 use Rattle.language.specs.Rules.{RulesWithin}
 use Rattle.language.specs.Derivations.{Derives}
 use Rattle.logic.specs.Paths.{end}
-use Rattle.model.specs.Relations.{Triple}
 use Rattle.least.specs.declared.table.Table.{Table}
-use Rattle.least.specs.Entries.{ground_of, In, entry_of, AtMost, Sound, Closed}
+use Rattle.least.specs.Entries.{ground_of, entry_of, AtMost, Sound, Closed}
 use Rattle.least.specs.Lowering.{Run, ShutStarts, ShutAll, weight}
 use Rattle.logic.proofs.GuardedPaths.{guarded_end, good_guarded}
 use Rattle.least.proofs.Least.{least}
-use Rattle.path.specs.Witnesses.{GoodFor, Nearest, Far, Best}
+use Rattle.path.specs.Witnesses.{GoodFor, Nearest, Far}
 
 module _ (rules : List Rule) (w : Table) (in_rules : RulesWithin w.scope.symbols rules) (goal : NumberSet) (s top : ℕ) (inside : s < w.scope.states) (closed : Closed rules top w) where
   -- a good path that is shorter than the top has an entry

@@ -5,7 +5,7 @@ use Rattle.model.specs.declared.edge.Edge.{Edge}
 use Rattle.model.specs.declared.edge.Step.{Step}
 use Rattle.model.specs.declared.number_set.NumberSet.{NumberSet}
 use Rattle.model.specs.Models.{HasEdge}
-use Rattle.model.specs.Relations.{Among, Exactly, Joined, Triple}
+use Rattle.model.specs.Relations.{Among, Joined, Triple}
 use Rattle.model.specs.Sets.{Has}
 use Rattle.language.specs.declared.rule.Rule.{Rule}
 use Rattle.language.specs.declared.rule.Rule.TheVariants.{Empty, Letter, Lead, Same, Pair}
@@ -22,7 +22,7 @@ use Rattle.least.proofs.Walking.{walk_to}
 use Rattle.least.proofs.Least.{least_known}
 use Rattle.path.specs.declared.split.Split.{Split}
 use Rattle.path.specs.declared.split.Split.TheVariants.{Last, Onward, Both}
-use Rattle.path.specs.Unfolding.{Splits, StepsBy, Sums, Less}
+use Rattle.path.specs.Unfolding.{Splits, StepsBy, Sums}
 use Rattle.path.specs.Reaching.{Keeps, Reached, ReachShut, NoShorter}
 
 -- a path of no steps stays where it is, and its symbol derives the empty word

@@ -1,5 +1,5 @@
 -- The first pairs, one watcher state after another.
-use Rattle.std.proofs.Common.{◌≡◌, ℕ, ◌+◌, ◌<◌, true, ◌∙◌, sym, refl, subst, ⊎_elim, arith}
+use Rattle.std.proofs.Common.{◌≡◌, ℕ, ◌+◌, ◌<◌, true, ◌∙◌, sym, subst, ⊎_elim, arith}
 use native.Mathlib.Decide.{ℕ_discrete}
 use Rattle.language.specs.declared.alphabet.Alphabet.{Ghosts as Alphabets}
 use Rattle.language.specs.declared.watcher.Watcher.{Ghosts as Watchers}
@@ -9,9 +9,6 @@ use Rattle.positions.specs.Looking.{table_of, Finds}
 use Rattle.positions.specs.Beginnings.{BadBelow, Begun}
 
 module _ {W : Type 0} {w : Watchers W} {a : Alphabets W} (unkept : ℕ → Type 0) (x : Search W w a) where
-  pub begun_none : ((p : ℕ × ℕ) → Holds x.found.rows p → ⊥) → Begun unkept 0 x x
-  begun_none none = record { same = refl; bad = λ p. (λ h. absurd (none p h), λ b. absurd (omega (arith, b.0))); all = λ p h. absurd (none p h) }
-
   pub begun_not : (n : ℕ) (y : Search W w a) → ((table_of x.setting).marked n ≡ true → ⊥) → Begun unkept n x y → Begun unkept (n + 1) x y
   begun_not n y un b = record { same = b.same; bad = λ p. (λ h. let k = (b.bad p).0 h in (omega (arith, k.0), k.1, k.2), λ k. (b.bad p).1 (go p k (ℕ_discrete p.1 n), k.1, k.2)); all = b.all }
     where

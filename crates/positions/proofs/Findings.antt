@@ -109,14 +109,6 @@ module _ (m : Model) (t : Table) where
 abbrev pub Taken : ℕ → NumberSet → NumberSet → ℕ × ℕ → Type 0
 Taken watch all rest p = (p.1 ≡ watch) × Has all p.0 × (Has rest p.0 → ⊥)
 
-pub laid_none : (rows : List NumberSet) (pile : Pile Position) (watch : ℕ) (all : NumberSet) → Laid rows pile rows pile (Taken watch all all)
-laid_none rows pile watch all = record {
-  found = record { keeps = λ p h. h; puts = λ p m. absurd (m.2 m.1); only = λ p h. inl h };
-  laid = record { keeps = λ p h. h; puts = λ p m. absurd (m.2 m.1); only = λ p h. inl h };
-  fits = omega arith;
-  room = refl;
-}
-
 -- one state after another
 pub taken_more : {a b c : List NumberSet} {x y z : Pile Position} (watch : ℕ) (all rest fewer : NumberSet) (n : ℕ) → Joined (Has fewer) (Has rest) (λ u. u ≡ n) → ((u : ℕ) → Has fewer u → u < n) → ((s : ℕ) → Has rest s → Has all s)
     → Laid a x b y (Taken watch all rest) → Laid b y c z (λ p. p ≡ (n, watch)) → Laid a x c z (Taken watch all fewer)

@@ -62,14 +62,8 @@ module _ (m : Model) (t : Table) (F : ℕ → Type 0) where
       go p (k, h, gone, v) (yes e) = inr (subst (λ i. V i p) e v)
       go p (k, h, gone, v) (no ne) = inl (k, h, (λ r. ⊎_elim gone ne (j.only k r)), v)
 
-  -- the four ways in which one pair is looked at
+  -- one pair that is not led to what is found, and one that is
   module _ (x : ℕ × ℕ) where
-    pub looked_freed : {rows : List NumberSet} {pile : Pile Position} → F x.0 → Looked m t F (λ p. p ≡ x) rows pile rows pile
-    looked_freed f = looked_same (λ p e d. absurd (d.0 (subst (λ z. F z.0) (sym e) f)))
-
-    pub looked_found : {rows : List NumberSet} {pile : Pile Position} → Holds rows x → Looked m t F (λ p. p ≡ x) rows pile rows pile
-    looked_found {rows} h = looked_same (λ p e d. subst (Holds rows) (sym e) h)
-
     pub looked_unled : {rows : List NumberSet} {pile : Pile Position} → (Led m t rows x → ⊥) → Looked m t F (λ p. p ≡ x) rows pile rows pile
     looked_unled {rows} un = looked_same (λ p e d. absurd (un (subst (Led m t rows) e (λ y h. (d.2 y h).0))))
 

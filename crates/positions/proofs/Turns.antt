@@ -1,5 +1,5 @@
 -- What the calls of a search do, one after another.
-use Rattle.std.proofs.Common.{◌≡◌, ℕ, ◌+◌, ◌<◌, ◌∙◌, sym, subst, refl}
+use Rattle.std.proofs.Common.{◌≡◌, ℕ, ◌+◌, ◌<◌, ◌∙◌, sym, subst}
 use Rattle.model.specs.declared.number_set.NumberSet.{NumberSet}
 use Rattle.model.specs.Relations.{Joined, Upto}
 use Rattle.model.specs.Sets.{Has}
@@ -11,8 +11,8 @@ use Rattle.positions.specs.declared.search.Search.{Search}
 use Rattle.positions.specs.declared.setting.Setting.{Setting}
 use Rattle.positions.specs.Searches.{Laid, Looked}
 use Rattle.positions.specs.Looking.{table_of, Finds, IsSettled, Looks}
-use Rattle.positions.proofs.Findings.{Taken, laid_none, taken_more}
-use Rattle.positions.proofs.Lookings.{looked_same, looked_like, looked_more, looked_taken}
+use Rattle.positions.proofs.Findings.{Taken, taken_more}
+use Rattle.positions.proofs.Lookings.{looked_like, looked_more, looked_taken}
 
 module _ {W : Type 0} {w : Watchers W} {a : Alphabets W} where
   -- the charts of a search are right
@@ -25,10 +25,6 @@ module _ {W : Type 0} {w : Watchers W} {a : Alphabets W} where
   earlier {V = V} old new is l = subst (λ s. Looked s.watched.model.now (table_of s) (Has s.freeing) V old.found.rows old.pile new.found.rows new.pile) is l
 
   module _ (x : Search W w a) where
-    -- nothing has been done
-    pub looks_none : {V : ℕ × ℕ → Type 0} → ((p : ℕ × ℕ) → V p → ⊥) → Looks V x x
-    looks_none none = record { same = refl; looked = looked_same _ _ _ (λ p v f. absurd (none p v)) }
-
     -- the same in other words
     pub looks_like : {V U : ℕ × ℕ → Type 0} (y : Search W w a) → ((p : ℕ × ℕ) → U p → V p) → Looks V x y → Looks U x y
     looks_like y to l = record { same = l.same; looked = looked_like _ _ _ to l.looked }
@@ -55,10 +51,6 @@ module _ {W : Type 0} {w : Watchers W} {a : Alphabets W} where
       same = f.same ∙ s.same;
       laid = subst (λ old. Laid old.rows x.pile z.found.rows z.pile D) s.found (subst (λ pile. Laid y.found.rows pile z.found.rows z.pile D) s.pile f.laid);
     }
-
-    -- the states of a set found one after another
-    pub finds_none : (watch : ℕ) (all : NumberSet) → Finds (Taken watch all all) x x
-    finds_none watch all = record { same = refl; laid = laid_none _ _ watch all }
 
     pub finds_taken : (watch : ℕ) (all rest fewer : NumberSet) (n : ℕ) (y z : Search W w a) → Joined (Has fewer) (Has rest) (λ u. u ≡ n) → ((u : ℕ) → Has fewer u → u < n) → ((s : ℕ) → Has rest s → Has all s)
         → Finds (Taken watch all rest) x y → Finds (λ p. p ≡ (n, watch)) y z → Finds (Taken watch all fewer) x z

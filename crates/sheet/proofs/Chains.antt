@@ -6,7 +6,7 @@ use Rattle.std.proofs.lemmas.Bool.{cases_lt}
 use Rattle.model.specs.declared.edge.Step.{Step}
 use Rattle.model.specs.declared.model.Model.{Model}
 use Rattle.model.specs.Refusals.{Refuse, Accept}
-use Rattle.sheet.specs.Causes.{CauseNot, CausePath, CauseUntil, CauseRelease, Told, TooLong, limit}
+use Rattle.sheet.specs.Causes.{OneMissing, CauseNot, CausePath, CauseUntil, CauseRelease, Told, TooLong, limit}
 use Rattle.language.specs.Tables.{Table}
 
 -- what a call that was not stopped has shown: its first cause was not met, and the later ones stopped nothing
@@ -35,7 +35,7 @@ not_lt {a} {b} none = elim (cases_lt a b) [ inl l ↦ absurd (none l) | inr l �
 pub part_there : (n q : ℕ) → CauseNot q n None → q < n
 part_there n q free = lt_of_not-le (passed free).0
 
-pub parts_there : (n a b : ℕ) {L : Type 0} → (((n ≤ a) ⊎ (n ≤ b)) × (◌≡◌ {A = Option ℕ} None (Some 21))) ⊎ ((((n ≤ a) ⊎ (n ≤ b)) → ⊥) × L) → (a < n) × (b < n)
+pub parts_there : (n a b : ℕ) {L : Type 0} → (OneMissing a b n × (◌≡◌ {A = Option ℕ} None (Some 21))) ⊎ ((OneMissing a b n → ⊥) × L) → (a < n) × (b < n)
 parts_there n a b free = let none = (passed free).0 in (lt_of_not-le (λ l. none (inl l)), lt_of_not-le (λ l. none (inr l)))
 
 abbrev pub none_good : List Step → Type 0

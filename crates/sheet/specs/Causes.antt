@@ -4,6 +4,7 @@ use Rattle.model.specs.declared.edge.Step.{Step}
 use Rattle.model.specs.declared.model.Model.{Model}
 use Rattle.model.specs.Refusals.{Refuse, Accept}
 use Rattle.language.specs.declared.rule.Rule.{Rule}
+use Rattle.language.specs.Limits.{BeyondLimits}
 use Rattle.language.specs.Tables.{Table}
 
 -- an asking call needs room for one question more
@@ -16,12 +17,16 @@ CauseProposition p n = Refuse (31 < p) 3 (Full n)
 abbrev pub CauseNot : ℕ → ℕ → Option ℕ → Type 0
 CauseNot q n = Refuse (n ≤ q) 21 (Full n)
 
+-- one of two questions is not among n
+abbrev pub OneMissing : ℕ → ℕ → ℕ → Type 0
+OneMissing a b n = (n ≤ a) ⊎ (n ≤ b)
+
 abbrev pub CauseOr : ℕ → ℕ → ℕ → Option ℕ → Type 0
-CauseOr a b n = Refuse ((n ≤ a) ⊎ (n ≤ b)) 21 (Full n)
+CauseOr a b n = Refuse (OneMissing a b n) 21 (Full n)
 
 -- two questions are read
 abbrev pub CausePair : ℕ → ℕ → ℕ → Option ℕ → Type 0
-CausePair a b n = Refuse ((n ≤ a) ⊎ (n ≤ b)) 21 Accept
+CausePair a b n = Refuse (OneMissing a b n) 21 Accept
 
 abbrev pub CauseMarks : ℕ → ℕ → Option ℕ → Type 0
 CauseMarks q n = Refuse (n ≤ q) 21 Accept
@@ -39,7 +44,7 @@ told known symbols rules = record { known = known; symbols = symbols; rules = ru
 abbrev pub Unfit : Model → Told → ℕ → (Option ℕ → Type 0) → Option ℕ → Type 0
 Unfit m l work later =
     Refuse (l.known ≢ m.actions) 7
-    (Refuse ((16 < l.symbols) ⊎ (128 < length l.rules)) 8
+    (Refuse (BeyondLimits l.symbols l.rules) 8
     (Refuse (work < l.symbols * m.states * m.states) 9 later))
 
 -- an until call with a work table of so many entries
@@ -66,5 +71,5 @@ CausePath m l work waiting steps guard goal s Good n =
     Refuse (m.states ≤ s) 1
     (Unfit m l work
     (Refuse (waiting < steps) 10
-    (Refuse ((n ≤ guard) ⊎ (n ≤ goal)) 21
+    (Refuse (OneMissing guard goal n) 21
     (Refuse (TooLong Good (limit steps)) 24 Accept))))

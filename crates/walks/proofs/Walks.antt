@@ -57,10 +57,6 @@ place_same {Q} {x} {y} a b e =
     let P : ℕ → ℕ → Pos = λ m n. (m, n) in
     ap (λ n. P n x.1) s ∙ ap (λ n. P y.0 n) q
 
--- each edge of a model names states and an action that are there
-pub edge_inside : (model : Model) (e : Edge) → HasEdge model e → Inside model.states model.actions e
-edge_inside model = model.inside
-
 -- a complete table stays among its states
 pub step_below : (n : ℕ) (t : Table) → Complete n t → (q a : ℕ) → q < t.states → a < n → step t q a < t.states
 step_below n t whole q a b c =
@@ -212,4 +208,4 @@ pub kept_outside : (model : Model) (t : Table) (F K : ℕ → Type 0) (D : ℕ �
     → ((s q : ℕ) → s < model.states → q < t.states → (D s q → ⊥) → (Bad t K s q → ⊥) × (Forced model t F D s q → ⊥))
     → (s q : ℕ) → s < model.states → q < t.states → (D s q → ⊥) → SomeKeeps model F K (MarkedFrom t q) s
 kept_outside model t F K D whole dec_f dec_k dec_d clear =
-    keeps_some model t F K D (choice model t F K D dec_d) model.states model.actions t.states (edge_inside model) (step_below model.actions t whole) dec_f dec_k clear
+    keeps_some model t F K D (choice model t F K D dec_d) model.states model.actions t.states model.inside (step_below model.actions t whole) dec_f dec_k clear
