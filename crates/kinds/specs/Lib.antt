@@ -5,6 +5,7 @@ pub mod Automata
 pub mod BracketWords
 pub mod Told
 pub mod Members
+pub mod Finding
 pub mod Passed
 pub mod Nesting
 pub mod Balance

@@ -1,5 +1,5 @@
 -- The numbers of a stretch that pass a test.
-use Rattle.std.specs.Prelude.{◌≡◌, ℕ, zero, suc, ◌+◌, ◌<◌, ◌≤◌, Bool, true, false, cond, count_by, List, slice_index_or, ◌∷◌, length, Some, refl}
+use Rattle.std.specs.Prelude.{◌≡◌, ℕ, zero, suc, ◌+◌, ◌-◌, ◌<◌, ◌≤◌, Bool, true, false, cond, count_by, List, slice_index_or, [], ◌∷◌, length, Some, refl}
 use Rattle.std.proofs.Common.{sym, ap, ◌∙◌, inl, inr, arith}
 use Rattle.std.specs.List.{slice_get}
 use Rattle.std.proofs.lemmas.Bool.{cases_Bool, cond-true, cond-false, cases_eq}
@@ -10,6 +10,16 @@ use Rattle.std.proofs.lemmas.List.FromFn.{length-range_with_len}
 use Rattle.kinds.specs.Passing.{passing, marked_below}
 
 module _ (test : ℕ → Bool) where
+  -- the next number passes, or it does not
+  pub passing_here : (q n : ℕ) → q < n → test q ≡ true → passing test q (n - q) ≡ q ∷ passing test (q + 1) (n - (q + 1))
+  passing_here q n l m = let e : n - q ≡ suc (n - (q + 1)) = omega arith in ap (passing test q) e ∙ cond-true _ _ _ m
+
+  pub failing_here : (q n : ℕ) → q < n → test q ≡ false → passing test q (n - q) ≡ passing test (q + 1) (n - (q + 1))
+  failing_here q n l m = let e : n - q ≡ suc (n - (q + 1)) = omega arith in ap (passing test q) e ∙ cond-false _ _ _ m
+
+  pub passing_end : (q n : ℕ) → n ≤ q → passing test q (n - q) ≡ []
+  passing_end q n l = let e : n - q ≡ 0 = omega arith in ap (passing test q) e
+
   pub passing_few : (n q : ℕ) → length (passing test q n) ≤ n
   passing_few n q =
       let stretch = range_with_len q n in
