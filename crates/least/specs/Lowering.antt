@@ -47,10 +47,6 @@ pub record Run (rules : List Rule) (Shut : Table → Type 0) (before after : Tab
 abbrev pub Always : Rule → (Table → Type 0) → Table → Table → Bool → Type 0
 Always r Shut before after fell = (rules : List Rule) → Among r rules → Run rules Shut before after fell
 
--- nothing is asked
-abbrev pub Anyhow : Table → Type 0
-Anyhow t = Unit {0}
-
 -- f and g together are no less than h
 abbrev pub PairAt : ℕ → Triple → Triple → Triple → Table → Type 0
 PairAt top f g h t = (n : ℕ) → Summed (place t.scope.states f) (place t.scope.states g) t n → n < top → AtMost n (entry_of t h)
@@ -106,6 +102,18 @@ ShutOn top (Letter H a) f t = Unit {0}
 ShutOn top (Lead H a B) f t = Unit {0}
 ShutOn top (Same H B) f t = ShutBy top (Same H B) f t
 ShutOn top (Pair H B C) f t = ShutBy top (Pair H B C) f t
+
+-- the rule gives no less with the fact f as its second part
+abbrev pub ShutSecond : ℕ → Rule → Triple → Table → Type 0
+ShutSecond top (Empty H) f t = Unit {0}
+ShutSecond top (Letter H a) f t = Unit {0}
+ShutSecond top (Lead H a B) f t = Unit {0}
+ShutSecond top (Same H B) f t = Unit {0}
+ShutSecond top (Pair H B C) f t = C ≡ f.0 → (s : ℕ) → s < t.scope.states → PairAt top (B, s, f.1) f (H, s, f.2) t
+
+-- nor as its first part; as its second one only if those are taken up
+abbrev pub ShutTurn : ℕ → Bool → Rule → Triple → Table → Type 0
+ShutTurn top seconds r f t = ShutOn top r f t × (seconds ≡ true → ShutSecond top r f t)
 
 -- X is the symbol of the first part of such a rule
 abbrev pub FirstPart : Rule → ℕ → Type 0

@@ -3,7 +3,8 @@ ghost use Rattle.std.specs.Prelude.{◌<◌};
 ghost use Rattle.language.specs.Rules.{SymbolsBelow};
 ghost use Rattle.language.specs.declared.rule.Rule.TheVariants.{Pair};
 ghost use Rattle.least.specs.Entries.{triple, In};
-ghost use Rattle.least.specs.Lowering.{Always, Anyhow, ShutAt, ShutOn};
+ghost use Rattle.least.specs.Lowering.{Always, ShutAt, ShutSecond, ShutTurn};
+ghost use Rattle.least.specs.Bands.{seconds_of};
 
 use crate::band::Band;
 use crate::fact::Fact;
@@ -48,7 +49,7 @@ impl Table<'_> {
         requires fact { In self.old.scope (triple fact) }
         requires head { head < self.old.scope.symbols }
         requires left { left < self.old.scope.symbols }
-        ensures { Always (Pair head left fact.symbol) Anyhow self.old self.new result }
+        ensures { Always (Pair head left fact.symbol) (ShutSecond top (Pair head left fact.symbol) (triple fact)) self.old self.new result }
     {
         let mut fell = false;
         let part = self.cell(fact);
@@ -69,11 +70,10 @@ impl Table<'_> {
     }
 
     // By a same or pair rule, where the fact can be a part of it; as the second part of a pair only if the band takes those.
-    // A turn as the first part leaves nothing to lower; one as the second part promises no such thing.
     pub(crate) fn expand(&mut self, top: u16, band: Band, fact: Fact, rule: Rule) -> bool
         requires fact { In self.old.scope (triple fact) }
         requires within { SymbolsBelow self.old.scope.symbols rule }
-        ensures { Always rule (ShutOn top rule (triple fact)) self.old self.new result }
+        ensures { Always rule (ShutTurn top (seconds_of band) rule (triple fact)) self.old self.new result }
     {
         match rule {
             Rule::Same { head, body } => {

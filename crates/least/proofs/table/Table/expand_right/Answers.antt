@@ -23,4 +23,4 @@ loop-from-preserved c rules r∈ =
     c.cell-other.ensures (place_at c.args.self.now.scope c.loop-from.self.scope _ _ same c.cell-part.ensures) c.cell-cell.ensures c.join-fell.ensures)
 
 pub returns : goal.returns
-returns c rules r∈ = run_like _ _ (λ at. tt) (c.loop-from.invariant rules r∈)
+returns c rules r∈ = run_like _ _ (λ at e s l. at s (omega (arith, c.loop-from-test.false, c.states-from-end.ensures))) (c.loop-from.invariant rules r∈)
