@@ -60,7 +60,6 @@ impl Table<'_> {
     }
 
     // Whether the entry `known` with one of the row at `others` gives less than stands in the row at `heads`.
-    // A fold over all of them, and no `any`: one that stops early looks at them one by one, which took twice as long.
     pub(crate) fn any_lower(&self, top: u16, known: u32, others: usize, heads: usize) -> bool
         requires some { 0 < known }
         requires low { known ≤ top }
@@ -68,13 +67,17 @@ impl Table<'_> {
         requires heads { heads + self.now.scope.states ≤ length self.now.entries.now }
         ensures { Decides result ((k : ℕ) × (k < self.now.scope.states) × Lower top known (slice_index self.now.entries.now (others + k)) (slice_index self.now.entries.now (heads + k))) }
     {
-        let states = self.states() as usize;
-        self.entries[others..others + states]
-            .iter()
-            .zip(&self.entries[heads..heads + states])
-            .fold(
-                false,
-                |lower, (second, old)| lower | is_lower(top, known, *second, *old),
-            )
+        let mut lower = false;
+        // By place, and to the end: with `zip` and `fold` over two slices the search for a path took 6 in 100 longer, and with
+        // `any`, which stops early and so looks at the pairs one by one, twice as long. Both were proved.
+        for k in 0..self.states() as usize {
+            lower |= is_lower(
+                top,
+                known,
+                self.entries[others + k],
+                self.entries[heads + k],
+            );
+        }
+        lower
     }
 }
