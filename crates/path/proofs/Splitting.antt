@@ -131,4 +131,3 @@ pub splits_from : (rules : List Rule) (w : Table) (X y s t n : ℕ) → ((v : Wo
 splits_from rules w X y s t n up (Last a u) (z, q, e, ld, et, d) = (z, q, e, ld, et, up _ d)
 splits_from rules w X y s t n up (Onward a u B) (e, ld, et, j, p, z, kn, d) = (e, ld, et, j, p, z, kn, λ v dv. up _ (d v dv))
 splits_from rules w X y s t n up (Both B u C) (i, j, p, q, z, k₁, k₂, d) = (i, j, p, q, z, k₁, k₂, λ v x dv dx. up _ (d v x dv dx))
-
