@@ -47,7 +47,7 @@ impl<T: Answer> fmt::Display for Outcome<T> {
     }
 }
 
-// The program `words` has checks of its own kind: the two are programs, and no crate holds what only they need.
+// The program `words` has checks of its own kind: a crate for both programs would be longer than what stands twice.
 #[derive(Drop)]
 pub struct Report<'a> {
     rt: &'a HostRuntime,

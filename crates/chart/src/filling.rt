@@ -1,5 +1,5 @@
-// What the rules give, until they give nothing new. That symbols are below 16 and words short is asked of each step: a rule
-// does not know its language, and a type for short words would move the bound to its one maker.
+// What the rules give, until they give nothing new. That symbols are below 16 and words short is asked of each step: rules
+// are made for languages beyond the limits too, and a type for short words would be made once and opened in each step.
 ghost use Rattle.std.specs.Prelude.{◌≡◌, ◌≤◌, length, Some, Decides};
 ghost use Rattle.std.specs.List.{slice_get};
 ghost use Rattle.model.specs.Relations.{Joined, Exactly};
@@ -73,6 +73,7 @@ pub(crate) fn fill<L: UntilLanguage>(language: &Fitting<L>, word: &[u8]) -> Trip
     // rounds led from the first set to the result, one more adds nothing) and trait for both kinds of set are longer
     loop {
         let next = round(language, word, &chart);
+        // by counts: that they grow is what ends the loop
         if next.count() == chart.count() {
             return chart;
         }

@@ -1,5 +1,5 @@
 // What a search over a model and a watcher looks up: its edges and its steps by action, as sets.
-// Only the searches call these functions, and keep what they require.
+// Only the searches and the sheet call these functions, and keep what they require.
 #![tactic(auto)]
 
 mod charts;

@@ -6,8 +6,9 @@ use model::{Edge, RecordSet};
 
 // A run starts in state 0, and its word is in the set where it ends in a final state.
 // The numbers of states and actions stand as numbers with their facts: a size in a field would put a step
-// between each clause and the number that it speaks of.
-// The final states are marks by number, since what is told goes over them in rising order.
+// between each clause and the number that it speaks of, and one that is seen as its number would hide its range.
+// The final states are flags by number, and no set: what is told goes by flags (`final_at`), and each of its laws would turn
+// membership, which is a fact, into a flag.
 #[derive(Drop)]
 pub struct Automaton {
     states: u8,

@@ -2,6 +2,7 @@
 ghost use Rattle.std.specs.Prelude.{◌<◌, ◌≤◌, ◌≢◌};
 
 // Its words have as many ups as downs, and no beginning with more downs than ups; other actions may stand anywhere.
+// The number of actions stands as a number with its fact, as in `Automaton`.
 #[derive(Clone, Copy)]
 pub struct Brackets {
     up: u8,

@@ -7,7 +7,7 @@ use model::RecordSet;
 
 // Its words are those that they derive from symbol 0.
 // The numbers of symbols and actions stand as numbers with their facts: a size in a field would put a step
-// between each clause and the number that it speaks of.
+// between each clause and the number that it speaks of, and one that is seen as its number would hide its range.
 #[derive(Drop)]
 pub struct Grammar {
     symbols: u8,

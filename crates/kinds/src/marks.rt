@@ -1,5 +1,4 @@
-// The marked numbers of a list of marks, in rising order. Marks come as flags by number, so that this order is that of
-// places.
+// The marked numbers of a list of marks, in rising order. Marks are flags by number: `Automaton` says why.
 ghost use Rattle.std.specs.Prelude.{◌≡◌, ◌≤◌, false, length, count_by, slice_index_or};
 ghost use Rattle.std.specs.List.{slice_get, range_with_len};
 ghost use Rattle.kinds.specs.Passing.{marked_below};

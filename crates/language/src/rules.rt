@@ -6,7 +6,8 @@ use crate::rule::Rule;
 use crate::until_language::UntilLanguage;
 use std::marker::Model;
 
-// Seen as the list of the rules that are still to come.
+// Seen as the list of the rules that are still to come. Place and count are two numbers: a `Range` would stand in the view
+// by its two ends all the same.
 #[derive(Drop)]
 pub struct Rules<'a, L: UntilLanguage> {
     language: &'a L,

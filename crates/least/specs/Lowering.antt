@@ -36,7 +36,8 @@ weight [] = 0
 weight (zero ∷ xs) = 2 ^ 32 + weight xs
 weight (suc x ∷ xs) = suc x + weight xs
 
--- a run of lowerings: the table is about the same, a sound table stays sound, the table gets lighter if an entry fell, and if none fell it is as before and shut
+-- a run of lowerings: the table is about the same, a sound table stays sound, the table gets lighter if an entry fell, and
+-- if none fell it is as before and shut
 pub record Run (rules : List Rule) (Shut : Table → Type 0) (before after : Table) (fell : Bool) : Type 0 where
   pub same : after.scope ≡ before.scope
   pub sound : Sound rules before → Sound rules after

@@ -23,7 +23,8 @@ Walk g rules p n = (path : List Step) × Guarded g p.1 path p.2 × Derives rules
 abbrev pub Leads : Ground → ℕ → ℕ → Edge → Type 0
 Leads g a s e = HasEdge g.model e × (s ≡ e.from) × (e.action ≡ a) × Has g.guard e.from
 
--- the rule makes the fact p with n steps, where F has the facts of its first part with their steps, and G those of its second
+-- the rule makes the fact p with n steps, where F has the facts of its first part with their steps, and G those of its
+-- second
 abbrev pub GivesIn : Ground → Rule → (Triple → ℕ → Type 0) → (Triple → ℕ → Type 0) → Triple → ℕ → Type 0
 GivesIn g (Empty H) F G p n = (p.0 ≡ H) × (p.1 < g.model.states) × (p.1 ≡ p.2) × (n ≡ 0)
 GivesIn g (Letter H a) F G p n = (p.0 ≡ H) × (e : Edge) × Leads g a p.1 e × (p.2 ≡ e.to) × (n ≡ 1)

@@ -3,8 +3,8 @@ ghost use Rattle.std.specs.Prelude.{◌≡◌, ◌≤◌};
 
 use logic::GuardedModel;
 
-// A model with a guard, and how many symbols there are; `states` is the model's number of states,
-// kept beside it since each access of an entry needs it.
+// A model with a guard, and how many symbols there are; `states` is the model's number of states, kept beside it since each
+// access of an entry needs it. Both are numbers of their own, and no `Layout`, since the clauses of a table speak of each.
 #[derive(Drop)]
 pub struct Scope<'a> {
     ground: &'a GuardedModel<'a>,

@@ -24,7 +24,7 @@ impl Draft {
         }
     }
 
-    // Sets the numbers of states and actions, and removes all edges and propositions.
+    // Sets the numbers of states and actions, and removes all edges and propositions: one line, as in each kind of language.
     pub fn size(&mut self, states: u8, actions: u8) -> Result<(), Refusal>
         ensures cause { CauseSize states actions (refusal result) }
         ensures after { MatchResult result (λ _. Bare states actions self.new.model) (λ _. self.new ≡ self.old) }

@@ -8,7 +8,9 @@ use crate::state_record::StateRecord;
 
 // States and actions are numbered from 0, and each edge is inside them.
 // The numbers of states and actions stand as numbers with their facts: a size in a field would put a step
-// between each clause and the number that it speaks of.
+// between each clause and the number that it speaks of, and one that is seen as its number would hide its range.
+// There is a record for each state that a model can have: all clauses speak of `states`, and a list of as many records would
+// put its length in that place.
 #[derive(Drop)]
 pub struct Model {
     states: u8,

@@ -112,8 +112,8 @@ impl NumberSet {
         self.without(self.without(other))
     }
 
-    // Takes the highest number out of the set. A set is gone over by taking its numbers out of a copy, which needs no list
-    // of them behind an iterator.
+    // Takes the highest number out of the set. A set is gone over by taking its numbers out of a copy: an iterator would
+    // have to say of each item what this says, and a loop would speak of what it gave in place of the set that is left.
     pub fn take_last(&mut self) -> Option<u8>
         ensures { MatchOption result ((self.old ≡ nothing) × (self.new ≡ nothing)) (λ t. (t < 32) × Joined (Has self.new) (Has self.old) (λ u. u ≡ t) × (self.new.bits < self.old.bits) × ((u : ℕ) → Has self.new u → u < t)) }
     {

@@ -102,7 +102,8 @@ module _ (rules : List Rule) (w : Table) where
           d.others,
         )
 
-    -- what a turn needs of the next fact: it is known with at least one step, and there is room for what its split lays and writes
+    -- what a turn needs of the next fact: it is known with at least one step, and there is room for what its split lays and
+    -- writes
     pub record Turn (f : Fact) (room written : ℕ) (pending : ℕ) : Type 0 where
       pub steps : ℕ
       pub some : 0 < steps

@@ -19,7 +19,8 @@ GoodFor m guard goal rules s p = Good m (Has guard) (Has goal) (Derives rules 0)
 abbrev pub SomeGoodFor : Model → NumberSet → NumberSet → List Rule → ℕ → Type 0
 SomeGoodFor m guard goal rules s = SomeGood m (Has guard) (Has goal) (Derives rules 0) s
 
--- the answer is right, and the step list is as it should be: none where no path is good; n steps overwrite the first n, and nothing else is changed; refused, and only so, where each good path is longer than the limit
+-- the answer is right, and the step list is as it should be: none where no path is good; n steps overwrite the first n, and
+-- nothing else is changed; refused, and only so, where each good path is longer than the limit
 abbrev pub Shows : Model → NumberSet → NumberSet → List Rule → ℕ → ℕ → List Step → List Step → Result (Option ℕ) Refusal → Type 0
 Shows m guard goal rules s limit before after (Ok None) = (SomeGoodFor m guard goal rules s → ⊥) × (after ≡ before)
 Shows m guard goal rules s limit before after (Ok (Some n)) = (n ≤ limit) × GoodFor m guard goal rules s (take n after) × ((p : List Step) → GoodFor m guard goal rules s p → n ≤ length p) × (drop n after ≡ drop n before) × (length after ≡ length before)

@@ -1,4 +1,5 @@
 // Rules that keep the number of steps can go in circles: they are walked as a set of symbols.
+// Table and language stand apart, as in the search, which has the table to itself and hands both on.
 ghost use Rattle.std.specs.Prelude.{◌≡◌, ◌<◌};
 ghost use Rattle.model.specs.Relations.{Exactly, Joined};
 ghost use Rattle.model.specs.Sets.{Has};
@@ -124,6 +125,7 @@ pub fn reach<L: UntilLanguage>(
     // rounds led from the first set to the result, one more adds nothing) and trait for both kinds of set are longer
     loop {
         let more = reach_once(table, language, span, mask);
+        // by counts: that they grow is what ends the loop
         if more.count() == mask.count() {
             return mask;
         }

@@ -1,6 +1,8 @@
 // The search for a shortest path into the goal.
 // Table and language stand apart in each call: a struct of both would have to say in each contract that the language stays.
-ghost use Rattle.std.specs.Prelude.{◌≡◌, ℕ, ◌+◌, ◌*◌, ◌<◌, ◌≤◌, ◌==◌, ◌&&◌, min, true, not, nat_lt, Decides, length, filter, count_by, IfSome, MatchResult};
+// That the scope stays and that a sound table stays sound are two clauses of each turn: as one relation, each caller would
+// take it apart again, and `sought` says of the first alone what follows from both.
+ghost use Rattle.std.specs.Prelude.{◌≡◌, ℕ, ◌*◌, ◌<◌, ◌≤◌, ◌==◌, ◌&&◌, min, true, not, nat_lt, Decides, length, filter, count_by, IfSome, MatchResult};
 ghost use Rattle.std.specs.List.{reduce};
 ghost use Rattle.model.specs.Relations.{Exactly};
 ghost use Rattle.model.specs.Sets.{Has};
@@ -175,7 +177,7 @@ fn sought<L: UntilLanguage>(
 // A shortest path from the aim's state into its goal that is guarded before its end and whose word the language has, in the
 // first places of the step list: none, or how many steps it has; refused if only longer ones than fit are there.
 // The sheet calls it, with the set of all states that have such a path, and sees to it that language, state and lent memory
-// are as asked. The set is no part of the aim, since the search does not read it; the sheet's caller lends each slice by
+// are as asked. The set is no part of the aim, since `sought` does not read it; the sheet's caller lends each slice by
 // itself, and each has a clause of its own here, so that a struct of them would be made and taken apart for one call.
 pub fn shortest<L: UntilLanguage>(
     language: &Fitting<L>,

@@ -1,5 +1,5 @@
-// Two states, and the entry of a fact between them. A span has no table, and so cannot
-// say its bounds: each contract that has a table says them.
+// Two states, and the entry of a fact between them. A span has no table, and so cannot say that its states are of the scope;
+// the entry has its bounds where they are needed, since `reach` makes spans of any entry.
 #[derive(Clone, Copy, PartialEq, Eq, Debug)]
 pub struct Span {
     pub from: u8,

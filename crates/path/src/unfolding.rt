@@ -1,4 +1,5 @@
 // A shortest path, written out from the entries of a table.
+// Table and language stand apart, as in the search, which has the table to itself and hands both on.
 ghost use Rattle.std.specs.Prelude.{◌≡◌, ℕ, ◌+◌, ◌<◌, ◌≤◌, List, ◌++◌, length, take, drop, MatchOption};
 ghost use Rattle.model.specs.Relations.{Among};
 ghost use Rattle.model.specs.Sets.{Has};
@@ -60,7 +61,8 @@ fn split<L: UntilLanguage>(table: &Table, language: &Fitting<L>, fact: Fact) -> 
     unreachable()
 }
 
-// Writes the step of the split, if it has one, and lays its facts on the pile; gives the number of steps written.
+// Writes the step of the split, if it has one, and lays its facts on the pile; gives the number of steps written. The steps
+// are no pile, which would not say that the places after the path stay as they were.
 fn advance(
     found: Split,
     fact: Fact,

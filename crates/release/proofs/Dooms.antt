@@ -113,7 +113,8 @@ released_words m F K W U n set to from r = record {
 }
 
 module _ {W : Type 0} {w : Watchers W} {a : Alphabets W} where
-  -- one turn of a search, told by an equal setting: the top is taken off the pile, and the pairs that lead to it are looked at
+  -- one turn of a search, told by an equal setting: the top is taken off the pile, and the pairs that lead to it are looked
+  -- at
   pub turn : (s : Setting W w a) (x lower y : Search W w a) (top : Position) → lower.setting ≡ s → lower.found ≡ x.found → Looks (Upto (BackBy lower.setting.watched.model.now (table_of lower.setting) (pair top)) lower.setting.watched.model.now.actions) lower y
       → Looked s.watched.model.now (table_of s) (Has s.freeing) (Upto (BackBy s.watched.model.now (table_of s) (pair top)) s.watched.model.now.actions) x.found.rows lower.pile y.found.rows y.pile
   turn s x lower y top same found looks =

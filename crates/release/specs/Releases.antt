@@ -17,7 +17,8 @@ pub record Doomed (m : Model) (t : Table) (F K : ℕ → Type 0) (rows : List Nu
   pub kept : (s q : ℕ) → s < m.states → q < t.states → (Holds rows (s, q) → ⊥) → SomeKeeps m F K (MarkedFrom t q) s
   pub clear : (s q : ℕ) → s < m.states → q < t.states → (Holds rows (s, q) → ⊥) → (Bad t K s q → ⊥) × (Forced m t F (λ u r. Holds rows (u, r)) s q → ⊥)
 
--- the set has exactly the states that satisfy the release over the words W; from any other state every maximal path breaks it at a moment before n
+-- the set has exactly the states that satisfy the release over the words W; from any other state every maximal path breaks
+-- it at a moment before n
 pub record Released (m : Model) (F K : ℕ → Type 0) (W : Word → Type 0) (n : ℕ) (set : NumberSet) : Type 0 where
   pub exact : Exactly (Has set) (λ s. (s < m.states) × SomeKeeps m F K W s)
   pub breaks : (s : ℕ) → s < m.states → (Has set s → ⊥) → (π : Maximal m s) → (k : ℕ) × (k < n) × BreaksAt F K W π k

@@ -23,7 +23,8 @@ abbrev pub book_after : Result ℕ Refusal → Book → Formula → Book
 book_after (Ok n) book f = book ++ f ∷ []
 book_after (Err e) book f = book
 
--- the call is right under a book: refused by the number of its formulas, answering the new question's number, and the sheet then stands under the book that the call leaves
+-- the call is right under a book: refused by the number of its formulas, answering the new question's number, and the sheet
+-- then stands under the book that the call leaves
 pub record Right (old new : Sheet) (Cause : ℕ → Option ℕ → Type 0) (f : Book → Formula) (r : Result ℕ Refusal) (book : Book) : Type 0 where
   pub refused : Cause (length book) (refusal r)
   pub number : IfOk r (λ n. n ≡ length book)

@@ -14,7 +14,8 @@ use Rattle.sheet.specs.Orders.{at}
 use Rattle.sheet.specs.Books.{Book, formula, model_of, Stands}
 use Rattle.sheet.specs.Causes.{Told, CausePath}
 
--- none: no path is good, and the step list is as it was. n steps: the first n entries are a good path, no good path has fewer steps, and the later entries are as they were
+-- none: no path is good, and the step list is as it was. n steps: the first n entries are a good path, no good path has
+-- fewer steps, and the later entries are as they were
 abbrev pub Shows : (List Step → Type 0) → List Step → List Step → Option ℕ → Type 0
 Shows Good before after None = ((p : List Step) → Good p → ⊥) × (after ≡ before)
 Shows Good before after (Some n) = (n ≤ length after) × Good (take n after) × ((p : List Step) → Good p → n ≤ length p) × (drop n after ≡ drop n before)

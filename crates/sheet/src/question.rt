@@ -45,7 +45,7 @@ impl Question {
     }
 }
 
-// What stands where no question is asked yet: proposition 0, without marks.
+// What stands where no question is asked yet: proposition 0, without marks. By hand, since no form is without a number.
 impl Default for Question {
     ghost is_default = { λ question. question ≡ unasked };
 

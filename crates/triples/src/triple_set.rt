@@ -8,7 +8,9 @@ ghost use Rattle.triples.specs.Triples.{row_of, Holds, size, InRow, Through, Lac
 use model::NumberSet;
 
 // Triples with a first number below 16 and the others below 32: for each first and second number the set of the third.
-// Their methods ask for such numbers. The rows stand in one array, since whole sets are joined and counted row by row.
+// Their methods ask for such numbers: symbols, states and actions come as `u8`, below their bounds by the facts of other
+// types, and a number with its bound would be made anew at each call. The rows stand in one array, since whole sets are
+// joined and counted row by row.
 #[derive(Clone, Copy)]
 pub struct TripleSet {
     rows: [NumberSet; 512],

@@ -16,7 +16,7 @@ use triples::TripleSet;
 // All facts, round by round until a round finds no more; each fact is combined with the others in one round only.
 // The work table gets the least height of each fact, which is the round in which it came, and 0 where there is none.
 // The words that symbol 0 derives are those of the language.
-// Another crate of ours calls this, and checks the size of the table.
+// The sheet checks the size of the table.
 pub fn fill<L: UntilLanguage>(
     language: &Fitting<L>,
     guarded: &GuardedModel,

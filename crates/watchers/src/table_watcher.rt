@@ -3,9 +3,10 @@ ghost use Rattle.std.specs.Prelude.{◌≡◌, ℕ, ◌<◌, ◌≤◌, [], leng
 
 // The state after state q and action a stands at place a of row q of `nexts`.
 // The numbers of states and actions stand as numbers with their facts: a size in a field would put a step
-// between each clause and the number that it speaks of.
-// The marks are flags by number, as the steps are rows by number: a row of a type of its own would be written by two
-// methods with a frame each, and a set would have to be tied to the number of states.
+// between each clause and the number that it speaks of, and one that is seen as its number would hide its range.
+// The marks are flags by number, and no set: a table tells them as flags (`Table.marked`), and each law would turn
+// membership, which is a fact, into a flag. A row of a type of its own, with steps and mark, would be written by two
+// methods with a frame each.
 #[derive(Drop)]
 pub struct TableWatcher {
     states: u8,

@@ -7,7 +7,7 @@ use anyhow::bail;
 use model::Refusal;
 use std::io;
 
-// The program `cases` has a report of its own kind: the two are programs, and no crate holds what only they need.
+// The program `cases` has a report of its own kind: a crate for both programs would be longer than what stands twice.
 #[derive(Drop)]
 pub struct Checks<'a> {
     rt: &'a HostRuntime,

@@ -19,7 +19,8 @@ pub fn last_one() -> Result<TableWatcher, Refusal> {
     Ok(watcher)
 }
 
-// Some zeros, and then as many ones.
+// Some zeros, and then as many ones. The program `cases` has this grammar too: a crate for both programs would be longer
+// than what stands twice.
 pub fn equal_runs() -> Result<Grammar, Refusal> {
     let rules = [
         Rule::Lead {

@@ -56,7 +56,7 @@ fn arrows_back<W: Watcher>(watched: &Watched<W>) -> TripleSet
 }
 
 impl Charts {
-    // The charts of a watcher and a model with the same actions.
+    // The charts of a watcher and a model with the same actions; by `of`, as all that is made of a watched model.
     pub fn of<W: Watcher>(watched: &Watched<W>) -> Charts
         ensures { Charted watched.now.model.now (W.Watcher.table watched.now.watcher.now) result }
     {

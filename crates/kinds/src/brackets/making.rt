@@ -4,7 +4,7 @@ ghost use Rattle.model.specs.Refusals.{refusal};
 ghost use Rattle.kinds.specs.BracketWords.{CauseBrackets, BracketsMade, other_action};
 
 use crate::brackets::Brackets;
-use model::Refusal;
+use model::{Refusal, Size};
 
 impl Brackets {
     // Brackets by two actions; with no action at all, up is already too large.
@@ -15,13 +15,15 @@ impl Brackets {
         if up >= actions || down >= actions {
             return Err(Refusal::NoSuchAction);
         }
-        if actions > 16 {
-            return Err(Refusal::OutOfRange);
-        }
+        let actions: Size<16> = actions.try_into()?;
         if up == down {
             return Err(Refusal::Contradictory);
         }
-        Ok(Brackets { up, down, actions })
+        Ok(Brackets {
+            up,
+            down,
+            actions: actions.get(),
+        })
     }
 
     // The actions other than up and down, as marks by number, in whose order they are told.

@@ -1,4 +1,5 @@
-// How a grammar is written. `size` is the one line of automata and table watchers, on another type.
+// How a grammar is written. `new`, `bare` and `size` are the one line or two of automata and table watchers, on another
+// type: a shared one would need a trait with a member for each of these lines.
 ghost use Rattle.std.specs.Prelude.{◌≡◌, Decides, MatchResult};
 ghost use Rattle.model.specs.Refusals.{refusal};
 ghost use Rattle.model.specs.Relations.{Among};

@@ -1,4 +1,5 @@
-// Lowering by the rules that have a fact as a part.
+// Lowering by the rules that have a fact as a part. Rows go by place: both lie in the one lent table, which `join` writes.
+// `sweep` says why each loop has a text of its own.
 ghost use Rattle.std.specs.Prelude.{◌<◌};
 ghost use Rattle.language.specs.Rules.{SymbolsBelow};
 ghost use Rattle.language.specs.declared.rule.Rule.TheVariants.{Pair};

@@ -1,4 +1,4 @@
-// Lowering by lead rules: along an edge first, and then by a fact.
+// Lowering by lead rules: along an edge first, and then by a fact. `sweep` says why each loop has a text of its own.
 ghost use Rattle.std.specs.Prelude.{◌≡◌, ◌<◌};
 ghost use Rattle.model.specs.Models.{HasEdge};
 ghost use Rattle.model.specs.Sets.{Has};
@@ -12,7 +12,7 @@ use crate::fact::Fact;
 use crate::table::Table;
 use model::Edge;
 
-// The parts of a lead rule.
+// The parts of a lead rule. They have no table, and so cannot say that they are of its scope.
 #[derive(Clone, Copy)]
 pub(crate) struct Leading {
     pub head: u8,

@@ -1,4 +1,4 @@
-// Lowering by the rules that have no part.
+// Lowering by the rules that have no part. `sweep` says why each loop has a text of its own.
 ghost use Rattle.std.specs.Prelude.{◌<◌};
 ghost use Rattle.model.specs.Models.{HasEdge};
 ghost use Rattle.language.specs.Rules.{SymbolsBelow};

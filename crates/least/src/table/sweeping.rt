@@ -1,4 +1,4 @@
-// Lowering by all rules.
+// Lowering by all rules. A rule does not know the scope: that its symbols are of it is asked of each turn.
 ghost use Rattle.std.specs.Prelude.{ℕ, ◌<◌};
 ghost use Rattle.language.specs.Rules.{SymbolsBelow, RulesWithin};
 ghost use Rattle.least.specs.Bands.{low_of, high_of};

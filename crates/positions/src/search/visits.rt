@@ -54,7 +54,8 @@ impl<'a, W: Watcher> Search<'a, W> {
     }
 
     // Looks at the positions of the states, each of which some edge leaves, with one watcher state. `doom_states` has the
-    // same loop round another call: one with the call as a closure would have to say what it does to the search.
+    // same loop round another call: one with the call as a closure would have to say what it does to the search, which
+    // `sweep` of `least` tried.
     fn visit_states(&mut self, watch: u8, states: NumberSet)
         requires watch { watch < (table_of self.old.setting).states }
         requires leave { (s : ℕ) → Has states s → Leaves (model_of self.old.setting) s }
