@@ -1,13 +1,14 @@
 ghost use Rattle.std.specs.Prelude.{◌≡◌, ◌≤◌, Decides};
 ghost use Rattle.least.specs.Bands.{low_of, high_of, seconds_of};
 
-// The facts that a sweep takes up, by their entries. Band and top stand apart, since rules with no part have no band.
+// The facts that a sweep takes up: those with an entry from low to high. Band and top stand apart, since rules with no part
+// have no band.
 #[derive(Clone, Copy, PartialEq, Eq, Debug)]
 pub enum Band {
-    // The facts with an entry from 1 to the number, each as the first part of pair rules.
-    UpTo(u32),
-    // The facts whose entry is the number, each as the first and as the second part of pair rules.
-    At(u32),
+    // Each as the first part of pair rules.
+    Firsts { low: u32, high: u32 },
+    // Each as the first and as the second part of pair rules.
+    Either { low: u32, high: u32 },
 }
 
 impl Band {
@@ -16,8 +17,8 @@ impl Band {
         ensures { Decides result ((low_of self ≤ entry) × (entry ≤ high_of self)) }
     {
         match self {
-            Band::UpTo(high) => 1 <= entry && entry <= high,
-            Band::At(level) => entry == level,
+            Band::Firsts { low, high } | Band::Either { low, high } => low <= entry
+                && entry <= high,
         }
     }
 
@@ -26,8 +27,8 @@ impl Band {
         ensures { result ≡ seconds_of self }
     {
         match self {
-            Band::UpTo(_) => false,
-            Band::At(_) => true,
+            Band::Firsts { .. } => false,
+            Band::Either { .. } => true,
         }
     }
 }

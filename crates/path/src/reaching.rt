@@ -1,5 +1,6 @@
 // Rules that keep the number of steps can go in circles: they are walked as a set of symbols.
-// Table and language stand apart, as in the search, which has the table to itself and hands both on.
+// Table and language stand apart: a struct of both would be made anew for each call, since the search has the table to itself.
+// A rule does not know the table: that its symbols are of its scope is asked of each step, here and in `shrinking`.
 ghost use Rattle.std.specs.Prelude.{◌≡◌, ◌<◌};
 ghost use Rattle.model.specs.Relations.{Exactly, Joined};
 ghost use Rattle.model.specs.Sets.{Has};
@@ -102,7 +103,7 @@ fn reach_once<L: UntilLanguage>(
 }
 
 // All symbols that the rules bring from that of the fact, whose entry is `worth`.
-pub fn reach<L: UntilLanguage>(
+pub(crate) fn reach<L: UntilLanguage>(
     table: &Table,
     language: &Fitting<L>,
     fact: Fact,

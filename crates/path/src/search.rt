@@ -1,7 +1,7 @@
 // The search for a shortest path into the goal.
 // Table and language stand apart in each call: a struct of both would have to say in each contract that the language stays.
-// That the scope stays and that a sound table stays sound are two clauses of each turn: as one relation, each caller would
-// take it apart again, and `sought` says of the first alone what follows from both.
+// That the scope stays and that a sound table stays sound are two clauses of each turn, since `sought` asks for a sound table
+// and says of the second what it comes to. Top and aim stand apart, since `settle` has a top alone.
 ghost use Rattle.std.specs.Prelude.{◌≡◌, ℕ, ◌*◌, ◌<◌, ◌≤◌, ◌==◌, ◌&&◌, min, true, not, nat_lt, Decides, length, filter, count_by, IfSome, MatchResult};
 ghost use Rattle.std.specs.List.{reduce};
 ghost use Rattle.model.specs.Relations.{Exactly};
@@ -84,9 +84,15 @@ fn sweep_level<L: UntilLanguage>(
 {
     let before = count_at(table.entries(), level);
     let band = if before > 512 {
-        Band::UpTo(level)
+        Band::Firsts {
+            low: 1,
+            high: level,
+        }
     } else {
-        Band::At(level)
+        Band::Either {
+            low: level,
+            high: level,
+        }
     };
     let fell = table.sweep(language.rules(), top, band);
     fell && count_at(table.entries(), level) > before
@@ -124,7 +130,10 @@ fn settle<L: UntilLanguage>(table: &mut Table, language: &Fitting<L>, top: u16)
     ensures sound { Sound (L.rules language.now) table.old → Sound (L.rules language.now) table.new }
     ensures closed { Closed (L.rules language.now) top table.new }
 {
-    let band = Band::UpTo(top as u32);
+    let band = Band::Firsts {
+        low: 1,
+        high: top as u32,
+    };
     loop {
         let first = table.start(language.rules(), top);
         let second = table.sweep(language.rules(), top, band);

@@ -1,5 +1,5 @@
 // A shortest path, written out from the entries of a table.
-// Table and language stand apart, as in the search, which has the table to itself and hands both on.
+// Table and language stand apart: a struct of both would be made anew for each call, since the search has the table to itself.
 ghost use Rattle.std.specs.Prelude.{◌≡◌, ℕ, ◌+◌, ◌<◌, ◌≤◌, List, ◌++◌, length, take, drop, MatchOption};
 ghost use Rattle.model.specs.Relations.{Among};
 ghost use Rattle.model.specs.Sets.{Has};
@@ -112,7 +112,7 @@ fn advance(
 }
 
 // Writes out a path of `count` steps behind the fact, whose entry says so many.
-pub fn unfold<L: UntilLanguage>(
+pub(crate) fn unfold<L: UntilLanguage>(
     table: &Table,
     language: &Fitting<L>,
     waiting: &mut [Fact],

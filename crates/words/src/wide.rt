@@ -5,7 +5,7 @@ ghost use Rattle.std.proofs.Common.{arith};
 use language::{Alphabet, Rule, UntilLanguage};
 
 // It has 17 symbols and no rule; no law is owed beyond 16 symbols, so calls refuse it. The program `cases` has a language
-// like it: the shared crates hold no language that is past the limits.
+// like it: a crate for both, with an edit for each function, would be longer than what stands twice.
 #[derive(Clone, Copy)]
 pub struct Wide;
 

@@ -1,4 +1,5 @@
 // Lowering by lead rules: along an edge first, and then by a fact. `sweep` says why each loop has a text of its own.
+// An edge has no model, and so cannot say that it is one of its edges.
 ghost use Rattle.std.specs.Prelude.{◌≡◌, ◌<◌};
 ghost use Rattle.model.specs.Models.{HasEdge};
 ghost use Rattle.model.specs.Sets.{Has};
