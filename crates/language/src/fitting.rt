@@ -12,8 +12,8 @@ use model::Refusal;
 use std::marker::Model;
 
 // An until language with at most 16 symbols and 128 rules, so that all its laws are owed: its words are those that its rules
-// derive. It is seen as that language, and so each call says what its type knows. It is made by `of`, and by no `TryFrom`,
-// which has one clause for its four.
+// derive. It is seen as that language, and so each call says what its type knows. It is made by `of`: in a
+// `TryFrom` its clauses would be one record, which each caller takes apart.
 #[derive(Drop)]
 pub struct Fitting<'a, L: UntilLanguage> {
     language: &'a L,

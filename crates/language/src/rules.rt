@@ -27,7 +27,7 @@ impl<'a, L: UntilLanguage> Model for Rules<'a, L> {
 }
 
 impl<'a, L: UntilLanguage> Rules<'a, L> {
-    // All rules of the language.
+    // All rules of the language. By `of`, as a fitting language: in a `From` the clause would be a relation of its own.
     pub fn of(language: &'a L) -> Rules<'a, L>
         ensures { result ≡ L.rules language.now }
     {

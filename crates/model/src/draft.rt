@@ -24,7 +24,8 @@ impl Draft {
         }
     }
 
-    // Sets the numbers of states and actions, and removes all edges and propositions: one line, as in each kind of language.
+    // Sets the numbers of states and actions, and removes all edges and propositions. One line, as in each kind of
+    // language: a shared one would need a trait with a member for it.
     pub fn size(&mut self, states: u8, actions: u8) -> Result<(), Refusal>
         ensures cause { CauseSize states actions (refusal result) }
         ensures after { MatchResult result (λ _. Bare states actions self.new.model) (λ _. self.new ≡ self.old) }
@@ -47,7 +48,8 @@ impl Draft {
         self.model.add_edge(edge)
     }
 
-    // Adds a proposition to one state, and changes no other state's record.
+    // Adds a proposition to one state, and changes no other state's record. A proposition is tested where it comes in, here
+    // and by a sheet: it is no size, which begins at 1.
     pub fn label(&mut self, state: u8, proposition: u8) -> Result<(), Refusal>
         ensures cause { CauseLabel self.old.model state proposition (refusal result) }
         ensures after { MatchResult result (λ _. LabelAdded self.old.model self.new.model state proposition) (λ _. self.new ≡ self.old) }

@@ -3,7 +3,8 @@ ghost use Rattle.std.proofs.Common.{rules};
 
 use crate::record::Record;
 
-// By its action, an edge leads from one state to another or to the same.
+// By its action, an edge leads from one state to another or to the same. An edge has no model, and so cannot say that it is
+// one of its edges.
 #[derive(Clone, Copy, Default, PartialEq, Eq, Debug)]
 pub struct Edge {
     pub from: u8,

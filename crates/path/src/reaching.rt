@@ -1,6 +1,6 @@
 // Rules that keep the number of steps can go in circles: they are walked as a set of symbols.
-// Table and language stand apart: a struct of both would be made anew for each call, since the search has the table to itself.
-// A rule does not know the table: that its symbols are of its scope is asked of each step, here and in `shrinking`.
+// Table and language stand apart: a struct of both would be made anew for each call, since the search has the table to
+// itself. A rule does not know the table: that its symbols are of its scope is asked of each step, here and in `shrinking`.
 ghost use Rattle.std.specs.Prelude.{◌≡◌, ◌<◌};
 ghost use Rattle.model.specs.Relations.{Exactly, Joined};
 ghost use Rattle.model.specs.Sets.{Has};

@@ -1,7 +1,7 @@
 // The search for a shortest path into the goal.
 // Table and language stand apart in each call: a struct of both would have to say in each contract that the language stays.
-// That the scope stays and that a sound table stays sound are two clauses of each turn, since `sought` asks for a sound table
-// and says of the second what it comes to. Top and aim stand apart, since `settle` has a top alone.
+// That the scope stays and that a sound table stays sound are two clauses of each turn, since `sought` asks for a sound
+// table and says of the second what it comes to. Top and aim stand apart, since `settle` has a top alone.
 ghost use Rattle.std.specs.Prelude.{◌≡◌, ℕ, ◌*◌, ◌<◌, ◌≤◌, ◌==◌, ◌&&◌, min, true, not, nat_lt, Decides, length, filter, count_by, IfSome, MatchResult};
 ghost use Rattle.std.specs.List.{reduce};
 ghost use Rattle.model.specs.Relations.{Exactly};

@@ -1,5 +1,6 @@
 // A shortest path, written out from the entries of a table.
-// Table and language stand apart: a struct of both would be made anew for each call, since the search has the table to itself.
+// Table and language stand apart: a struct of both would be made anew for each call, since the search has the table to
+// itself.
 ghost use Rattle.std.specs.Prelude.{◌≡◌, ℕ, ◌+◌, ◌<◌, ◌≤◌, List, ◌++◌, length, take, drop, MatchOption};
 ghost use Rattle.model.specs.Relations.{Among};
 ghost use Rattle.model.specs.Sets.{Has};

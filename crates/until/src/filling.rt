@@ -14,9 +14,9 @@ use logic::{GuardedModel, Layout};
 use triples::TripleSet;
 
 // All facts, round by round until a round finds no more; each fact is combined with the others in one round only.
-// The work table gets the least height of each fact, which is the round in which it came, and 0 where there is none.
-// The words that symbol 0 derives are those of the language.
-// The sheet checks the size of the table.
+// The work table gets the least height of each fact, which is the round in which it came, and 0 where there is none, since
+// the caller lends a table of numbers. The words that symbol 0 derives are those of the language. The sheet checks the size
+// of the table.
 pub fn fill<L: UntilLanguage>(
     language: &Fitting<L>,
     guarded: &GuardedModel,

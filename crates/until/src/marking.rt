@@ -12,7 +12,7 @@ use logic::GuardedModel;
 use model::NumberSet;
 use triples::TripleSet;
 
-// The states below `states` from which symbol 0 has a fact to a state of the goal. Only crates of ours call this, with
+// The states below `states` from which symbol 0 has a fact to a state of the goal. `satisfying` calls this with
 // the number of states of a model.
 pub fn reaching(table: &TripleSet, goal: NumberSet, states: u8) -> NumberSet
     requires { states ≤ 32 }

@@ -1,4 +1,5 @@
-// The work table: for each fact the round in which it came.
+// The work table: for each fact the round in which it came. A set of triples does not know the layout: that its facts lie
+// in it is asked.
 ghost use Rattle.std.specs.Prelude.{◌≡◌, ℕ, ◌+◌, ◌*◌, ◌/◌, ◌<◌, ◌≤◌, length};
 ghost use Rattle.model.specs.Sets.{Has};
 ghost use Rattle.logic.specs.Layouts.{spot};

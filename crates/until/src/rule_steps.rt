@@ -1,7 +1,9 @@
 // What one rule adds to a table of found facts. That its symbols are below 16 is asked of each step, since rules are made
 // for languages beyond the limits too; that there are at most 32 states, since a model tells them as a number, and a size
-// made of it would be a call that can refuse. Lefts and rights of a pair stand apart, since either can be the fresh ones.
-// Each form goes over the states by itself, since what it adds is another row each time.
+// made of it would be a call that can refuse. A set of triples
+// does not know how many states there are: that its facts are below is asked too. Lefts and rights of a pair stand apart,
+// since either can be the fresh ones. Each form goes over the states by itself, since what it adds is another row each
+// time.
 ghost use Rattle.std.specs.Prelude.{◌<◌, ◌≤◌};
 ghost use Rattle.model.specs.Relations.{Joined, Exactly};
 ghost use Rattle.model.specs.Sets.{Has};

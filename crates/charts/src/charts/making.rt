@@ -56,7 +56,8 @@ fn arrows_back<W: Watcher>(watched: &Watched<W>) -> TripleSet
 }
 
 impl Charts {
-    // The charts of a watcher and a model with the same actions; by `of`, as all that is made of a watched model.
+    // The charts of a watcher and a model with the same actions. By `of`: in a `From` its one clause would be a relation of
+    // its own, over the ghost members of the watcher.
     pub fn of<W: Watcher>(watched: &Watched<W>) -> Charts
         ensures { Charted watched.now.model.now (W.Watcher.table watched.now.watcher.now) result }
     {

@@ -26,7 +26,7 @@ impl Brackets {
         })
     }
 
-    // The actions other than up and down, as marks by number, in whose order they are told.
+    // The actions other than up and down, as marks by number: `Automaton` says why.
     pub(crate) fn others(&self) -> [bool; 16]
         ensures long { length result ≡ 16 }
         ensures marks { (a : ℕ) → a < 16 → slice_index_or result a false ≡ other_action self.now a }

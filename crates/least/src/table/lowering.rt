@@ -68,9 +68,9 @@ impl Table<'_> {
         ensures { Decides result ((k : ℕ) × (k < self.now.scope.states) × Lower top known (slice_index self.now.entries.now (others + k)) (slice_index self.now.entries.now (heads + k))) }
     {
         let mut lower = false;
-        // By place, and to the end. The bar is to be as fast as before, which this is. Both chains were proved and miss it: the
-        // search for a path took 6 in 100 longer with `zip` and `fold` over two slices, and twice as long with `any`, which
-        // stops early and looks at the pairs one by one.
+        // By place, and to the end. The bar is to be as fast as before, which this is. Both chains were proved and miss it:
+        // the search for a path took 6 in 100 longer with `zip` and `fold` over two slices, and twice as long with `any`,
+        // which stops early and looks at the pairs one by one.
         for k in 0..self.states() as usize {
             lower |= is_lower(
                 top,

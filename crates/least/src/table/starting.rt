@@ -1,4 +1,5 @@
-// Lowering by the rules that have no part. `sweep` says why each loop has a text of its own.
+// Lowering by the rules that have no part. `sweep` says why each loop has a text of its own, and
+// its file why symbols are asked to be of the scope.
 ghost use Rattle.std.specs.Prelude.{◌<◌};
 ghost use Rattle.model.specs.Models.{HasEdge};
 ghost use Rattle.language.specs.Rules.{SymbolsBelow};
