@@ -73,8 +73,7 @@ pub(crate) fn fill<L: UntilLanguage>(language: &Fitting<L>, word: &[u8]) -> Trip
     // rounds led from the first set to the result, one more adds nothing) and trait for both kinds of set are longer
     loop {
         let next = round(language, word, &chart);
-        // by counts: that they grow is what ends the loop
-        if next.count() == chart.count() {
+        if next.same(&chart) {
             return chart;
         }
         chart = next;

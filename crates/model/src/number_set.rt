@@ -1,5 +1,5 @@
 // A set of numbers below 32: of states, of propositions, or of symbols.
-ghost use Rattle.std.specs.Prelude.{◌≡◌, ℕ, Bool, ◌<◌, ◌≤◌, false, Decides, MatchOption, count_ones};
+ghost use Rattle.std.specs.Prelude.{◌≡◌, ℕ, ◌<◌, ◌≤◌, false, Decides, MatchOption, count_ones};
 ghost use Rattle.model.specs.Relations.{Joined, Exactly};
 ghost use Rattle.model.specs.Sets.{Has, nothing};
 
@@ -37,22 +37,6 @@ impl NumberSet {
         } else {
             NumberSet { bits: u32::MAX }
         }
-    }
-
-    // The numbers below n that pass the test; n is at most 32.
-    pub fn passing<F: Fn(u8) -> bool>(n: u8, test: F) -> NumberSet
-        requires few { n ≤ 32 }
-        requires callable { (t : ℕ) → t < n → F.pre test t }
-        ensures below { (t : ℕ) → Has result t → t < n }
-        ensures tested { (t : ℕ) → t < n → (passes : Bool) × F.post test t passes × Decides passes (Has result t) }
-    {
-        let mut found = NumberSet::empty();
-        for t in 0..n {
-            if test(t) {
-                found = found.union(NumberSet::single(t));
-            }
-        }
-        found
     }
 
     // The sum of 2^t over the numbers t of the set.

@@ -1,20 +1,19 @@
 // Sizes: how many states, actions or symbols there are.
-ghost use Rattle.std.specs.Prelude.{◌≡◌, ◌≤◌};
+ghost use Rattle.std.specs.Prelude.{◌≡◌, ◌≤◌, max};
 
 use crate::refusal::Refusal;
 
-// A number from 1 to MAX.
+// A number from 1 to MAX; 1 where MAX is 0.
 #[derive(Clone, Copy)]
 pub struct Size<const MAX: u8> {
     count: u8,
     ghost some: { 1 ≤ count },
-    ghost few: { count ≤ MAX },
+    ghost few: { count ≤ max 1 MAX },
 }
 
 impl<const MAX: u8> Size<MAX> {
     // The least size.
     pub fn one() -> Size<MAX>
-        requires { 1 ≤ MAX }
         ensures { result.count ≡ 1 }
     {
         Size { count: 1 }

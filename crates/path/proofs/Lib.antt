@@ -1,3 +1,4 @@
+mod Levels
 mod Splitting
 mod Doing
 mod Sizes

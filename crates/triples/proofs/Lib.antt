@@ -1,3 +1,4 @@
+pub mod TripleRooms
 pub mod TripleRows
 pub mod TripleSizes
 mod Counts

@@ -1,5 +1,5 @@
 -- Sets of triples of numbers: for each first and second number a row, the set of the third.
-use Rattle.std.specs.Prelude.{ℕ, zero, suc, ◌≡◌, ◌+◌, ◌*◌, ◌<◌, List, get_or, count_ones, slice_index_or}
+use Rattle.std.specs.Prelude.{ℕ, zero, suc, ◌≡◌, ◌≢◌, ◌+◌, ◌*◌, ◌<◌, List, get_or, count_ones, slice_index_or}
 use Rattle.model.specs.declared.number_set.NumberSet.{NumberSet}
 use Rattle.model.specs.Relations.{Triple}
 use Rattle.model.specs.Sets.{Has, nothing}
@@ -32,3 +32,10 @@ Lacking one other p = one p × (other p → ⊥)
 -- the first number of each triple is below the one bound, and the others below the other
 abbrev pub TriplesBelow : ℕ → ℕ → (Triple → Type 0) → Type 0
 TriplesBelow firsts others triples = (p : Triple) → triples p → (p.0 < firsts) × (p.1 < others) × (p.2 < others)
+
+-- some row of the one differs from that of the other
+pub record Apart (xs ys : List NumberSet) : Type 0 where
+  pub place : ℕ
+  pub inside : place < 512
+  pub differs : (get_or xs place nothing).bits ≢ (get_or ys place nothing).bits
+  pub fits : (get_or xs place nothing).bits < 4294967296

@@ -1,10 +1,11 @@
 // Sets of triples of numbers.
-ghost use Rattle.std.specs.Prelude.{◌≡◌, ℕ, ◌<◌, ◌≤◌, ◌≢◌, length, slice_index_or};
+ghost use Rattle.std.specs.Prelude.{◌≡◌, ℕ, ◌<◌, ◌≤◌, ◌≢◌, MatchBool, length, slice_index_or};
 ghost use Rattle.model.specs.declared.number_set.NumberSet.{NumberSet};
 ghost use Rattle.model.specs.Relations.{Joined, Exactly, Triple};
 ghost use Rattle.model.specs.Sets.{Has, nothing};
-ghost use Rattle.triples.specs.Triples.{row_of, Holds, size, InRow, Through, Lacking};
+ghost use Rattle.triples.specs.Triples.{row_of, Holds, size, InRow, Through, Lacking, Apart};
 
+use crate::numbers::passing;
 use model::NumberSet;
 
 // Triples with a first number below 16 and the others below 32: for each first and second number the set of the third.
@@ -52,14 +53,14 @@ impl TripleSet {
         requires { first < 16 }
         ensures { Exactly (Has result) (λ s. (s < 32) × (row_of self.now.rows first s ≢ nothing)) }
     {
-        NumberSet::passing(32, |second| !self.row(first, second).is_empty())
+        passing(32, |second| !self.row(first, second).is_empty())
     }
 
     // The first numbers that have a triple.
     pub fn firsts(&self) -> NumberSet
         ensures { Exactly (Has result) (λ x. (x < 16) × (s : ℕ) × (s < 32) × (row_of self.now.rows x s ≢ nothing)) }
     {
-        NumberSet::passing(16, |first| !self.seconds(first).is_empty())
+        passing(16, |first| !self.seconds(first).is_empty())
     }
 
     // Adds to `reached` the third numbers that stand with a first and some second of `from`.
@@ -81,6 +82,18 @@ impl TripleSet {
         ensures most { result ≤ 16384 }
     {
         self.rows.iter().map(|row| row.count()).sum()
+    }
+
+    // Whether both have the same rows; it stops at the first that differs.
+    pub fn same(&self, other: &TripleSet) -> bool
+        ensures { MatchBool result (self.now.rows ≡ other.now.rows) (Apart self.now.rows other.now.rows) }
+    {
+        for place in 0..512usize {
+            if self.rows[place].bits() != other.rows[place].bits() {
+                return false;
+            }
+        }
+        true
     }
 
     // Adds every triple of `other`.

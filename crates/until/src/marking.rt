@@ -10,7 +10,7 @@ use crate::filling::fill;
 use language::{Fitting, UntilLanguage};
 use logic::GuardedModel;
 use model::NumberSet;
-use triples::TripleSet;
+use triples::{TripleSet, passing};
 
 // The states below `states` from which symbol 0 has a fact to a state of the goal. `satisfying` calls this with
 // the number of states of a model.
@@ -18,7 +18,7 @@ pub fn reaching(table: &TripleSet, goal: NumberSet, states: u8) -> NumberSet
     requires { states ≤ 32 }
     ensures { Exactly (Has result) (λ s. (s < states) × (t : ℕ) × Holds table.now.rows (0, s, t) × Has goal t) }
 {
-    NumberSet::passing(states, |s| !table.row(0, s).common(goal).is_empty())
+    passing(states, |s| !table.row(0, s).common(goal).is_empty())
 }
 
 // The states from which some good path starts: its word is in the language, the guard holds before its end, and the

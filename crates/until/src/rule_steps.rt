@@ -5,11 +5,11 @@
 // since either can be the fresh ones. Each form goes over the states by itself, since what it adds is another row each
 // time.
 ghost use Rattle.std.specs.Prelude.{◌<◌, ◌≤◌};
-ghost use Rattle.model.specs.Relations.{Joined, Exactly};
+ghost use Rattle.model.specs.Relations.{Joined, Exactly, Triple};
 ghost use Rattle.model.specs.Sets.{Has};
 ghost use Rattle.language.specs.Rules.{head_of, SymbolsBelow};
 ghost use Rattle.until.specs.Consequences.{ByEmpty, BySame, ByPair, ByEdge, Led, GivesAlone, GivesFresh};
-ghost use Rattle.triples.specs.Triples.{Holds, TriplesBelow};
+ghost use Rattle.triples.specs.Triples.{Holds, Through, TriplesBelow};
 
 use crate::parts::Parts;
 use language::Rule;
@@ -41,6 +41,30 @@ fn add_same(found: &mut TripleSet, bodies: &TripleSet, states: u8, head: u8, bod
     }
 }
 
+// Adds to `reached` the to-states of the right part's facts from some state of `middle`; it stops once every state is
+// reached, as a set of triples does not, since it does not know the states.
+fn onward(
+    rights: &TripleSet,
+    reached: NumberSet,
+    middle: NumberSet,
+    right: u8,
+    every: NumberSet,
+) -> NumberSet
+    requires right { right < 16 }
+    requires every { (f : Triple) → Holds rights.now.rows f → Has every f.2 }
+    ensures { Joined (Has reached) (Has result) (Through (Has middle) (Holds rights.now.rows) right) }
+{
+    let mut found = reached;
+    let mut rest = middle;
+    while found != every {
+        let Some(state) = rest.take_last() else {
+            return found;
+        };
+        found = found.union(rights.row(right, state));
+    }
+    found
+}
+
 // A pair rule, with its left part among `lefts` and its right part among `rights`. A row with every state gains nothing.
 fn add_pair(
     found: &mut TripleSet,
@@ -65,7 +89,7 @@ fn add_pair(
         let row = found.row(head, from);
         if row != every {
             let middle = lefts.row(left, from).common(starts);
-            found.add(head, from, rights.through(row, middle, right));
+            found.add(head, from, onward(rights, row, middle, right, every));
         }
     }
 }

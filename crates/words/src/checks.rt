@@ -2,8 +2,8 @@
 ghost use Rattle.std.specs.Prelude.{◌≡◌, OnOk};
 ghost use Rattle.words.specs.Counting.{Noted};
 
+use crate::failure::Failure;
 use crate::finding::Finding;
-use anyhow::bail;
 use model::Refusal;
 use std::io;
 
@@ -45,13 +45,13 @@ impl<'a> Checks<'a> {
     }
 
     // Prints the counts; a difference is an error.
-    pub fn close(&self) -> anyhow::Result<()>
+    pub fn close(&self) -> Result<(), Failure>
         ensures { OnOk result (self.now.different ≡ 0) }
     {
         let (made, different) = (self.made, self.different);
         println!(self.rt; "{made} words, {different} differences")?;
         if different > 0 {
-            bail!("a word is not as expected");
+            return Err(Failure::Different(different));
         }
         Ok(())
     }

@@ -2,14 +2,16 @@
 #![tactic(auto)]
 
 mod checks;
+mod failure;
 mod finding;
 mod samples;
 mod wide;
 mod working;
 
 use crate::checks::Checks;
+use crate::failure::Failure;
 
-fn main(rt: HostRuntime) -> anyhow::Result<()> {
+fn main(rt: HostRuntime) -> Result<(), Failure> {
     let mut checks = Checks::new(&rt);
     working::watchers(&mut checks)?;
     working::grammar(&mut checks)?;

@@ -1,5 +1,6 @@
 // The words of each kind that are worked.
 use crate::checks::Checks;
+use crate::failure::Failure;
 use crate::samples;
 use crate::wide::Wide;
 use chart::derives;
@@ -15,7 +16,7 @@ fn compare<F: Fn(&[u8]) -> Result<bool, Refusal>>(
     kind: &str,
     cases: &[Case],
     ask: F,
-) -> anyhow::Result<()>
+) -> Result<(), Failure>
     requires { F.IsAlwaysCallable ask }
 {
     for (word, expected) in cases {
@@ -24,7 +25,7 @@ fn compare<F: Fn(&[u8]) -> Result<bool, Refusal>>(
     Ok(())
 }
 
-pub fn watchers(checks: &mut Checks) -> anyhow::Result<()> {
+pub fn watchers(checks: &mut Checks) -> Result<(), Failure> {
     let steps = samples::steps()?;
     let cases: [Case; 5] = [
         (&[0], Ok(true)),
@@ -45,7 +46,7 @@ pub fn watchers(checks: &mut Checks) -> anyhow::Result<()> {
     compare(checks, "table", &cases, |word| accepts(&last_one, word))
 }
 
-pub fn grammar(checks: &mut Checks) -> anyhow::Result<()> {
+pub fn grammar(checks: &mut Checks) -> Result<(), Failure> {
     let grammar = samples::equal_runs()?;
     let cases: [Case; 6] = [
         (&[0, 1], Ok(true)),
@@ -58,7 +59,7 @@ pub fn grammar(checks: &mut Checks) -> anyhow::Result<()> {
     compare(checks, "grammar", &cases, |word| derives(&grammar, word))
 }
 
-pub fn automaton(checks: &mut Checks) -> anyhow::Result<()> {
+pub fn automaton(checks: &mut Checks) -> Result<(), Failure> {
     let automaton = samples::last_but_one()?;
     let cases: [Case; 5] = [
         (&[1, 0], Ok(true)),
@@ -75,7 +76,7 @@ pub fn automaton(checks: &mut Checks) -> anyhow::Result<()> {
     )
 }
 
-pub fn brackets(checks: &mut Checks) -> anyhow::Result<()> {
+pub fn brackets(checks: &mut Checks) -> Result<(), Failure> {
     let brackets = samples::brackets()?;
     let cases: [Case; 7] = [
         (&[], Ok(true)),
@@ -89,7 +90,7 @@ pub fn brackets(checks: &mut Checks) -> anyhow::Result<()> {
     compare(checks, "brackets", &cases, |word| derives(&brackets, word))
 }
 
-pub fn wide(checks: &mut Checks) -> anyhow::Result<()> {
+pub fn wide(checks: &mut Checks) -> Result<(), Failure> {
     let cases: [Case; 1] = [(&[0], Err(Refusal::TooLarge))];
     compare(checks, "17 symbols", &cases, |word| derives(&Wide, word))
 }

@@ -12,8 +12,12 @@ impl Model {
     pub fn labelled(&self, p: u8) -> NumberSet
         ensures { Exactly (Has result) (λ s. (s < self.now.states) × Labelled self.now s p) }
     {
-        NumberSet::passing(self.states, |s| {
-            self.records[s as usize].propositions().has(p)
-        })
+        let mut found = NumberSet::empty();
+        for s in 0..self.states {
+            if self.records[s as usize].propositions().has(p) {
+                found = found.union(NumberSet::single(s));
+            }
+        }
+        found
     }
 }

@@ -17,7 +17,7 @@ pub loop-from-preserved : goal.loop-from-preserved
 loop-from-preserved c = joined_more _ _ c.loop-from.invariant (elim c.if-ne.branch [
   | then-ne w ↦
       let middle = subst (λ x. Exactly (Has w.common-middle.result) (λ u. Has x u × Has c.seconds-starts.result u)) w.row.ensures w.common-middle.ensures in
-      let grown = row_grown _ c.args.head c.loop-from.from _ _ _ (omega arith) c.row-row.ensures w.through.ensures w.add.ensures in
+      let grown = row_grown _ c.args.head c.loop-from.from _ _ _ (omega arith) c.row-row.ensures w.onward.ensures w.add.ensures in
       joined_from (λ (t : TripleSet). Holds t.rows) (sym w.found-is) (pair_row _ _ _ _ _ _ _ _ (omega arith) c.seconds-starts.ensures middle grown)
   | else-ne w ↦
       let all = eqb-true _ _ (not-false _ (sym c.ne.ensures ∙ w.if-ne.false)) in

@@ -3,8 +3,8 @@ use Rattle.std.proofs.lemmas.Bool.{false≢true}
 use Rattle.model.specs.Sets.{Has}
 use Rattle.model.proofs.Joins.{joined_like, joined_from}
 use Rattle.model.proofs.Passing.{passed_more}
-use Rattle.model.proofs.number_set.NumberSet.passing.Goals as goal
-use Rattle.model.proofs.number_set.NumberSet.passing.Goals.{then-test, else-test}
+use Rattle.triples.proofs.numbers.passing.Goals as goal
+use Rattle.triples.proofs.numbers.passing.Goals.{then-test, else-test}
 
 pub loop-t-preserved : goal.loop-t-preserved
 loop-t-preserved g c = passed_more _ c.loop-t.found c.if-test.found c.loop-t.t c.test.result c.test.ensures

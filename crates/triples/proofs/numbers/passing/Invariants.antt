@@ -1,5 +1,5 @@
 use Rattle.model.proofs.Passing.{Passed}
-use Rattle.model.proofs.number_set.NumberSet.passing.Given as goal
+use Rattle.triples.proofs.numbers.passing.Given as goal
 
 abbrev pub invariant-loop-t : goal.invariant-loop-t
 invariant-loop-t g l = Passed (λ u passes. goal.F-post g l.test u passes) l.found l.t
