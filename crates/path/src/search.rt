@@ -49,8 +49,8 @@ fn nearest(table: &Table, top: u32, aim: Aim) -> Option<u8>
         .min_by_key(|to| worth_of(table, aim, *to))
 }
 
-// The least entry above the level that is at most the top, if there is one. By `fold` here and by `sum` below, which go on
-// to the end without a test that leaves: with `filter` both took twice as long, and a search takes much of its time here.
+// The least entry above the level that is at most the top, if there is one. By `fold`, and below by `sum`: `filter` with
+// `min` and with `count` was slower, which shows where the table is long or has few entries (docs/DESIGN-PASS.md).
 fn next_level(entries: &[u32], top: u16, level: u32) -> Option<u32>
     ensures above { IfSome result (λ next. (level < next) × (next ≤ top)) }
     ensures least { result ≡ reduce min (filter (λ k. nat_lt level k && not (nat_lt top k)) entries.now) }

@@ -1,4 +1,4 @@
-// Sets of triples of numbers below fixed bounds.
+// Sets of triples of numbers below fixed bounds, and of the numbers that pass a test.
 #![tactic(auto)]
 
 mod numbers;

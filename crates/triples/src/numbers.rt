@@ -1,4 +1,4 @@
-// Sets of the numbers that pass a test.
+// Sets of the numbers that pass a test: for our own crates, since a test must be one that may be called.
 ghost use Rattle.std.specs.Prelude.{ℕ, Bool, ◌<◌, ◌≤◌, Decides};
 ghost use Rattle.model.specs.Sets.{Has};
 

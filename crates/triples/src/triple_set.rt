@@ -84,7 +84,8 @@ impl TripleSet {
         self.rows.iter().map(|row| row.count()).sum()
     }
 
-    // Whether both have the same rows; it stops at the first that differs.
+    // Whether both have the same rows; it stops at the first that differs. Of that row it says that it fits into 32 bits,
+    // which a derived `==` would not: by that `fill` of `chart` ends.
     pub fn same(&self, other: &TripleSet) -> bool
         ensures { MatchBool result (self.now.rows ≡ other.now.rows) (Apart self.now.rows other.now.rows) }
     {

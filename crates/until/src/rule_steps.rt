@@ -41,8 +41,8 @@ fn add_same(found: &mut TripleSet, bodies: &TripleSet, states: u8, head: u8, bod
     }
 }
 
-// Adds to `reached` the to-states of the right part's facts from some state of `middle`; it stops once every state is
-// reached, as a set of triples does not, since it does not know the states.
+// Adds to `reached` the to-states of the right part's facts from some state of `middle`, until every state is reached:
+// `TripleSet::through` has no such stop, since it is not told which states there are.
 fn onward(
     rights: &TripleSet,
     reached: NumberSet,
@@ -56,11 +56,11 @@ fn onward(
 {
     let mut found = reached;
     let mut rest = middle;
-    while found != every {
-        let Some(state) = rest.take_last() else {
-            return found;
-        };
+    while let Some(state) = rest.take_last() {
         found = found.union(rights.row(right, state));
+        if found == every {
+            return found;
+        }
     }
     found
 }

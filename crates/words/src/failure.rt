@@ -1,5 +1,5 @@
-// Why the program ends with an error. An enum of its own, and not the error of `anyhow`, which prints a failed write in
-// other words.
+// Why the program ends with an error. An enum of its own and not the error of `anyhow`: where a write fails, the program
+// prints this enum.
 use model::Refusal;
 use std::io;
 
