@@ -13,13 +13,14 @@ use language::{Fitting, Rule, UntilLanguage};
 use least::{Fact, Table};
 use model::NumberSet;
 
-// The symbol, if the entry `empty` is that of no steps and the entry `rest` is this one.
-fn kept(symbol: u8, empty: u32, rest: u32, worth: u32) -> NumberSet
-    requires { symbol < 32 }
-    ensures { Exactly (Has result) (λ y. (y ≡ symbol) × (empty ≡ 1) × (rest ≡ worth)) }
+// The symbol of the fact `rest`, if its entry is this one and that of `empty` is the one of no steps.
+fn kept(table: &Table, empty: Fact, rest: Fact, worth: u32) -> NumberSet
+    requires empty { In table.now.scope (triple empty) }
+    requires rest { In table.now.scope (triple rest) }
+    ensures { Exactly (Has result) (λ y. (y ≡ rest.symbol) × (entry_of table.now (triple empty) ≡ 1) × (entry_of table.now (triple rest) ≡ worth)) }
 {
-    if empty == 1 && rest == worth {
-        return NumberSet::single(symbol);
+    if table.entry(empty) == 1 && table.entry(rest) == worth {
+        return NumberSet::single(rest.symbol);
     }
     NumberSet::empty()
 }
@@ -32,38 +33,17 @@ fn keeps(table: &Table, rule: Rule, span: Span) -> NumberSet
     ensures { Exactly (Has result) (Keeps table.now span.from span.to span.worth rule) }
 {
     let Span { from, to, worth } = span;
+    let part = |symbol, from, to| Fact { symbol, from, to };
     match rule {
         Rule::Same { body, .. } => {
-            let rest = table.entry(Fact {
-                symbol: body,
-                from,
-                to,
-            });
-            kept(body, 1, rest, worth)
+            if table.entry(part(body, from, to)) != worth {
+                return NumberSet::empty();
+            }
+            NumberSet::single(body)
         }
         Rule::Pair { left, right, .. } => {
-            let none_left = table.entry(Fact {
-                symbol: left,
-                from,
-                to: from,
-            });
-            let all_right = table.entry(Fact {
-                symbol: right,
-                from,
-                to,
-            });
-            let none_right = table.entry(Fact {
-                symbol: right,
-                from: to,
-                to,
-            });
-            let all_left = table.entry(Fact {
-                symbol: left,
-                from,
-                to,
-            });
-            let second = kept(right, none_left, all_right, worth);
-            second.union(kept(left, none_right, all_left, worth))
+            let second = kept(table, part(left, from, from), part(right, from, to), worth);
+            second.union(kept(table, part(right, to, to), part(left, from, to), worth))
         }
         Rule::Empty { .. } | Rule::Letter { .. } | Rule::Lead { .. } => NumberSet::empty(),
     }
