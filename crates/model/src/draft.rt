@@ -6,7 +6,7 @@ ghost use Rattle.model.specs.Drafts.{Bare, LabelAdded, CauseSize, CauseEdge, Cau
 use crate::edge::Edge;
 use crate::model::Model;
 use crate::refusal::Refusal;
-use crate::size::Size;
+use crate::size_or_one::SizeOrOne;
 
 // Edges and propositions are given to a draft alone; sealing it gives the model.
 #[derive(Drop)]
@@ -20,7 +20,7 @@ impl Draft {
         ensures { Bare 1 1 result.model }
     {
         Draft {
-            model: Model::bare(Size::one(), Size::one()),
+            model: Model::bare(SizeOrOne::one(), SizeOrOne::one()),
         }
     }
 

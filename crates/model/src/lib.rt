@@ -9,6 +9,7 @@ mod record;
 mod record_set;
 mod refusal;
 mod size;
+mod size_or_one;
 mod state_record;
 
 pub use draft::Draft;
@@ -19,4 +20,5 @@ pub use record::Record;
 pub use record_set::RecordSet;
 pub use refusal::Refusal;
 pub use size::Size;
+pub use size_or_one::SizeOrOne;
 pub use state_record::StateRecord;

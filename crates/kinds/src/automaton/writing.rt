@@ -6,18 +6,18 @@ ghost use Rattle.model.specs.Relations.{Among};
 ghost use Rattle.kinds.specs.Automata.{edges_of, NoEdges, AfterEdge, FinalSet, CauseSize, CauseEdge, CauseFinal};
 
 use crate::automaton::Automaton;
-use model::{Edge, RecordSet, Refusal, Size};
+use model::{Edge, RecordSet, Refusal, SizeOrOne};
 
 impl Automaton {
     // One state, one action, no edge and no final state.
     pub fn new() -> Automaton
         ensures { NoEdges 1 1 result }
     {
-        Automaton::bare(Size::one(), Size::one())
+        Automaton::bare(SizeOrOne::one(), SizeOrOne::one())
     }
 
     // No edge and no final state.
-    fn bare(states: Size<16>, actions: Size<16>) -> Automaton
+    fn bare(states: SizeOrOne<16>, actions: SizeOrOne<16>) -> Automaton
         ensures { NoEdges states.count actions.count result }
     {
         Automaton {

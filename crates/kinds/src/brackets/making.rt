@@ -4,7 +4,7 @@ ghost use Rattle.model.specs.Refusals.{refusal};
 ghost use Rattle.kinds.specs.BracketWords.{CauseBrackets, BracketsMade, other_action};
 
 use crate::brackets::Brackets;
-use model::{Refusal, Size};
+use model::{Refusal, SizeOrOne};
 
 impl Brackets {
     // Brackets by two actions; with no action at all, up is already too large.
@@ -15,7 +15,7 @@ impl Brackets {
         if up >= actions || down >= actions {
             return Err(Refusal::NoSuchAction);
         }
-        let actions: Size<16> = actions.try_into()?;
+        let actions: SizeOrOne<16> = actions.try_into()?;
         if up == down {
             return Err(Refusal::Contradictory);
         }

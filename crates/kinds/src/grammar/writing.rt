@@ -8,18 +8,18 @@ ghost use Rattle.kinds.specs.Grammars.{rules_of, NoRules, AfterRule, CauseSize, 
 use crate::grammar::Grammar;
 use crate::rules::{actions_below, symbols_below};
 use language::Rule;
-use model::{RecordSet, Refusal, Size};
+use model::{RecordSet, Refusal, SizeOrOne};
 
 impl Grammar {
     // One symbol, one action and no rule.
     pub fn new() -> Grammar
         ensures { NoRules 1 1 result }
     {
-        Grammar::bare(Size::one(), Size::one())
+        Grammar::bare(SizeOrOne::one(), SizeOrOne::one())
     }
 
     // No rule.
-    fn bare(symbols: Size<16>, actions: Size<16>) -> Grammar
+    fn bare(symbols: SizeOrOne<16>, actions: SizeOrOne<16>) -> Grammar
         ensures { NoRules symbols.count actions.count result }
     {
         Grammar {

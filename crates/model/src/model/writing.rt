@@ -10,12 +10,12 @@ use crate::edge::Edge;
 use crate::model::Model;
 use crate::record_set::RecordSet;
 use crate::refusal::Refusal;
-use crate::size::Size;
+use crate::size_or_one::SizeOrOne;
 use crate::state_record::StateRecord;
 
 impl Model {
     // A model with no edge and no proposition.
-    pub(crate) fn bare(states: Size<32>, actions: Size<16>) -> Model
+    pub(crate) fn bare(states: SizeOrOne<32>, actions: SizeOrOne<16>) -> Model
         ensures { Bare states.count actions.count result }
     {
         Model {

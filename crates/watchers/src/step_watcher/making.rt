@@ -4,7 +4,7 @@ ghost use Rattle.model.specs.Refusals.{refusal};
 ghost use Rattle.watchers.specs.Steps.{CauseSteps, StepsMade};
 
 use crate::step_watcher::StepWatcher;
-use model::{Refusal, Size};
+use model::{Refusal, SizeOrOne};
 
 impl StepWatcher {
     // A watcher over the given number of actions; its state is the number of steps so far, modulo `modulus`.
@@ -12,8 +12,8 @@ impl StepWatcher {
         ensures cause { CauseSteps modulus remainder actions (refusal result) }
         ensures made { IfOk result (StepsMade modulus remainder actions) }
     {
-        let states: Size<32> = modulus.try_into()?;
-        let actions: Size<16> = actions.try_into()?;
+        let states: SizeOrOne<32> = modulus.try_into()?;
+        let actions: SizeOrOne<16> = actions.try_into()?;
         if remainder >= modulus {
             return Err(Refusal::Contradictory);
         }

@@ -5,18 +5,18 @@ ghost use Rattle.model.specs.Refusals.{refusal};
 ghost use Rattle.watchers.specs.TableWatchers.{Plain, NextSet, MarkSet, CauseSize, CauseNext, CauseMark};
 
 use crate::table_watcher::TableWatcher;
-use model::{Refusal, Size};
+use model::{Refusal, SizeOrOne};
 
 impl TableWatcher {
     // One state and one action.
     pub fn new() -> TableWatcher
         ensures { Plain 1 1 result }
     {
-        TableWatcher::plain(Size::one(), Size::one())
+        TableWatcher::plain(SizeOrOne::one(), SizeOrOne::one())
     }
 
     // Every step leads to state 0, and no state is marked.
-    fn plain(states: Size<32>, actions: Size<16>) -> TableWatcher
+    fn plain(states: SizeOrOne<32>, actions: SizeOrOne<16>) -> TableWatcher
         ensures { Plain states.count actions.count result }
     {
         TableWatcher {
